@@ -1,0 +1,58 @@
+-- What a call with output does to the lent buffer.
+-- Assumes nothing.
+use Prim.Native.Nat.{ℕ, _≤_, _<_}
+use mathlib.Core.Path.{_≡_, refl, _∙_, ap, sym}
+use mathlib.Core.Bool.{Bool, true, false}
+use mathlib.Core.List.{List, [], _∷_, _++_}
+use native.Mathlib.Omega.{arith}
+use borrow.Author.Tests.{le-leb, lt-leb, leb-true}
+use lib.Dec.{leb}
+use lib.ListN.{length, drop, length-append, length-drop}
+use lib.Seq.{drop-at}
+use Rattle.spec.specs.Choice.{pick}
+use Rattle.spec.specs.declared.Refusal.{Refusal}
+use Rattle.spec.specs.declared.Refusal.the-variants.{NoRoom}
+use Rattle.spec.specs.declared.Written.{Written}
+use Rattle.spec.specs.declared.Written.the-variants.{Count, Refused}
+use Rattle.spec.specs.Answers.{Outcome, put}
+
+module _ (bytes : List ℕ) (n : ℕ) (buffer : List ℕ) where
+  pub put-fits : length bytes ≤ length buffer → put bytes n buffer ≡ record { answer = Count n; buffer = bytes ++ drop (length bytes) buffer }
+  unfolding put
+  put-fits h = rw (le-leb (length bytes) (length buffer) h)
+
+  pub put-full : length buffer < length bytes → put bytes n buffer ≡ record { answer = Refused NoRoom; buffer = buffer }
+  unfolding put
+  put-full h = rw (lt-leb (length bytes) (length buffer) h)
+
+  abbrev full : Outcome Written
+  full = record { answer = Count n; buffer = bytes ++ drop (length bytes) buffer }
+
+  abbrev kept : Outcome Written
+  kept = record { answer = Refused NoRoom; buffer = buffer }
+
+  -- A refusal keeps every byte.
+  pub put-refused : (r : Refusal) → put bytes n buffer .answer ≡ Refused r → put bytes n buffer .buffer ≡ buffer
+  unfolding put
+  put-refused r = go (leb (length bytes) (length buffer))
+    where
+      go : (x : Bool) → pick x full kept .answer ≡ Refused r → pick x full kept .buffer ≡ buffer
+      go true e = let z : _≡_ {A = ℕ} 0 1 = cc in absurd (omega arith)
+      go false e = refl
+
+  -- The buffer keeps its length, and what stands after the bytes stays.
+  pub put-length : length (put bytes n buffer .buffer) ≡ length buffer
+  unfolding put
+  put-length = go (leb (length bytes) (length buffer)) refl
+    where
+      go : (x : Bool) → leb (length bytes) (length buffer) ≡ x → length (pick x full kept .buffer) ≡ length buffer
+      go true e = omega (arith, length-append bytes (drop (length bytes) buffer), length-drop (length bytes) buffer, leb-true (length bytes) (length buffer) e)
+      go false e = refl
+
+  pub put-rest : drop (length bytes) (put bytes n buffer .buffer) ≡ drop (length bytes) buffer
+  unfolding put
+  put-rest = go (leb (length bytes) (length buffer))
+    where
+      go : (x : Bool) → drop (length bytes) (pick x full kept .buffer) ≡ drop (length bytes) buffer
+      go true = drop-at bytes (drop (length bytes) buffer) (length bytes) refl
+      go false = refl

@@ -1,0 +1,306 @@
+-- Names, fields and string texts as a reader meets them, byte by byte.
+-- Assumes nothing.
+use Prim.Native.Nat.{ℕ, suc, _+_, _-_, _*_, _%_, _≤_, _<_}
+use mathlib.Core.Path.{_≡_, refl, _∙_, ap, sym}
+use mathlib.Core.Bool.{Bool, true, false}
+use mathlib.Core.List.{List, [], _∷_, _++_}
+use mathlib.Core.Logic.{_⊎_, inl, inr, ⊎-elim}
+use native.Mathlib.Omega.{arith}
+use borrow.Author.Tests.{eq-eqb, ne-eqb, le-leb, lt-leb, leb-true, lt-ltb, ltb-true, eqb-true, eqb-false}
+use lib.Dec.{eqb, leb, ltb}
+use lib.ListN.{length, length-append}
+use Rattle.spec.specs.Choice.{pick, both, either, between}
+use Rattle.spec.specs.Lines.{Text, end, byte, lineText}
+use Rattle.spec.specs.Lists.{upto, holds, past}
+use Rattle.spec.proofs.TextSteps.{line-end, line-on}
+use Rattle.spec.specs.Strings.{Decoded, bad, good, emit, Mode, plain, slash, caret, oneDigit, twoDigits, octal, escaped, control, decode}
+use Rattle.spec.specs.Fields.{namesOf, grow, split, fieldsOf, size, lineSize}
+use Rattle.spec.proofs.FieldTexts.{line-parts}
+use Rattle.spec.proofs.Tests.{both-false}
+
+-- ---- the text up to the next colon (58), and what follows it, of a line at a place
+
+pub field-nil : upto 58 (lineText end) ≡ []
+unfolding upto lineText
+field-nil = refl
+
+pub past-nil : past 58 (lineText end) ≡ []
+unfolding past lineText
+past-nil = refl
+
+module _ (b n : ℕ) (t : Text) where
+  pub field-end : (b ≡ 10) ⊎ (b ≡ 58) → upto 58 (lineText (byte b n t)) ≡ []
+  unfolding upto
+  field-end (inl e) = rw (line-end b n t e)
+  field-end (inr e) = rw (line-on b n t (omega arith), eq-eqb b 58 e)
+
+  pub field-on : ((b ≡ 10) ⊎ (b ≡ 58) → ⊥) → upto 58 (lineText (byte b n t)) ≡ b ∷ upto 58 (lineText t)
+  unfolding upto
+  field-on h = rw (line-on b n t (λ e. h (inl e)), ne-eqb b 58 (λ e. h (inr e)))
+
+  pub past-end : b ≡ 10 → past 58 (lineText (byte b n t)) ≡ []
+  unfolding past
+  past-end e = rw (line-end b n t e)
+
+  pub past-here : b ≡ 58 → past 58 (lineText (byte b n t)) ≡ lineText t
+  unfolding past
+  past-here e = rw (line-on b n t (omega arith), eq-eqb b 58 e)
+
+  pub past-on : ((b ≡ 10) ⊎ (b ≡ 58) → ⊥) → past 58 (lineText (byte b n t)) ≡ past 58 (lineText t)
+  unfolding past
+  past-on h = rw (line-on b n t (λ e. h (inl e)), ne-eqb b 58 (λ e. h (inr e)))
+
+-- ---- the fields: the first, then those after its colon
+
+pub split-nil : split [] ≡ []
+unfolding split
+split-nil = refl
+
+pub split-first : (b : ℕ) (l : List ℕ) → split (b ∷ l) ≡ upto 58 (b ∷ l) ∷ split (past 58 (b ∷ l))
+unfolding split upto past grow
+split-first b [] = go (eqb b 58)
+  where
+    go : (x : Bool) → pick x ([] ∷ split []) (grow b (split [])) ≡ pick x [] (b ∷ []) ∷ split (pick x [] [])
+    go true = refl
+    go false = refl
+split-first b (c ∷ l) = go (eqb b 58) (split-first c l)
+  where
+    go : (x : Bool) → split (c ∷ l) ≡ upto 58 (c ∷ l) ∷ split (past 58 (c ∷ l))
+        → pick x ([] ∷ split (c ∷ l)) (grow b (split (c ∷ l))) ≡ pick x [] (b ∷ upto 58 (c ∷ l)) ∷ split (pick x (c ∷ l) (past 58 (c ∷ l)))
+    go true e = refl
+    go false e = rw e
+
+-- ---- decoding
+
+outside : (low high b : ℕ) → ((low ≤ b) × (b ≤ high) → ⊥) → between low high b ≡ false
+outside low high b n = go (leb low b) refl (leb b high) refl
+  where
+    go : (x : Bool) → leb low b ≡ x → (y : Bool) → leb b high ≡ y → both x y ≡ false
+    go true e true f = absurd (n (leb-true low b e, leb-true b high f))
+    go true e false f = refl
+    go false e y f = refl
+
+is-octal : (b : ℕ) → (48 ≤ b) × (b ≤ 55) → octal b ≡ true
+is-octal b i =
+    let high : b < 48 + 8 = omega (arith, i .1) in
+    rw (le-leb 48 b (i .0), lt-ltb b (48 + 8) high)
+
+not-octal : (b : ℕ) → ((48 ≤ b) × (b ≤ 55) → ⊥) → octal b ≡ false
+not-octal b n = go (leb 48 b) refl (ltb b (48 + 8)) refl
+  where
+    go : (x : Bool) → leb 48 b ≡ x → (y : Bool) → ltb b (48 + 8) ≡ y → both x y ≡ false
+    go true e true f = absurd (n (leb-true 48 b e, omega (arith, ltb-true b (48 + 8) f)))
+    go true e false f = refl
+    go false e y f = refl
+
+-- Bytes before a decoded text: what a writer has put out so far.
+unfoldable pub after : List ℕ → Decoded → Decoded
+after out bad = bad
+after out (good l) = good (out ++ l)
+
+pub after-emit : (out : List ℕ) (b : ℕ) (o : Decoded) → after out (emit b o) ≡ after (out ++ b ∷ []) o
+unfolding emit after
+after-emit [] b bad = refl
+after-emit [] b (good l) = refl
+after-emit (x ∷ out) b bad = refl
+after-emit (x ∷ out) b (good l) = ap good (ap (λ (m : List ℕ). x ∷ m) (out-snoc out))
+  where
+    out-snoc : (o : List ℕ) → o ++ b ∷ l ≡ (o ++ b ∷ []) ++ l
+    out-snoc [] = refl
+    out-snoc (y ∷ o) = ap (λ (m : List ℕ). y ∷ m) (out-snoc o)
+
+pub decode-done : decode plain [] ≡ good []
+unfolding decode
+decode-done = refl
+
+pub decode-cut : (m : Mode) → (m ≡ plain → ⊥) → decode m [] ≡ bad
+unfolding decode
+decode-cut plain h = absurd (h refl)
+decode-cut slash h = refl
+decode-cut caret h = refl
+decode-cut (oneDigit v) h = refl
+decode-cut (twoDigits v) h = refl
+
+module _ (b : ℕ) (l : List ℕ) where
+  pub decode-slash : b ≡ 92 → decode plain (b ∷ l) ≡ decode slash l
+  unfolding decode
+  decode-slash e = rw (eq-eqb b 92 e)
+
+  pub decode-caret : b ≡ 94 → decode plain (b ∷ l) ≡ decode caret l
+  unfolding decode
+  decode-caret e = rw (ne-eqb b 92 (omega arith), eq-eqb b 94 e)
+
+  pub decode-byte : (b ≡ 92 → ⊥) → (b ≡ 94 → ⊥) → (32 ≤ b) × (b ≤ 126) → decode plain (b ∷ l) ≡ emit b (decode plain l)
+  unfolding decode
+  decode-byte h k i = rw (ne-eqb b 92 h, ne-eqb b 94 k, le-leb 32 b (i .0), le-leb b 126 (i .1))
+
+  pub decode-odd : (b ≡ 92 → ⊥) → (b ≡ 94 → ⊥) → ((32 ≤ b) × (b ≤ 126) → ⊥) → decode plain (b ∷ l) ≡ bad
+  unfolding decode
+  decode-odd h k i = rw (ne-eqb b 92 h, ne-eqb b 94 k, outside 32 126 b i)
+
+  pub decode-control : (63 ≤ b) × (b ≤ 126) → decode caret (b ∷ l) ≡ emit (control b) (decode plain l)
+  unfolding decode
+  decode-control i = rw (le-leb 63 b (i .0), le-leb b 126 (i .1))
+
+  pub decode-no-control : ((63 ≤ b) × (b ≤ 126) → ⊥) → decode caret (b ∷ l) ≡ bad
+  unfolding decode
+  decode-no-control i = rw (outside 63 126 b i)
+
+  pub decode-letter : (v : ℕ) → ((48 ≤ b) × (b ≤ 55) → ⊥) → escaped b ≡ v → v ≤ 255 → decode slash (b ∷ l) ≡ emit v (decode plain l)
+  unfolding decode
+  decode-letter v h e k = rw (not-octal b h, e, le-leb v 255 k)
+
+  pub decode-no-letter : ((48 ≤ b) × (b ≤ 55) → ⊥) → escaped b ≡ 256 → decode slash (b ∷ l) ≡ bad
+  unfolding decode
+  decode-no-letter h e = rw (not-octal b h, e)
+
+  pub decode-first : (48 ≤ b) × (b ≤ 55) → decode slash (b ∷ l) ≡ decode (oneDigit (b - 48)) l
+  unfolding decode
+  decode-first i = rw (is-octal b i)
+
+  pub decode-second : (v : ℕ) → (48 ≤ b) × (b ≤ 55) → decode (oneDigit v) (b ∷ l) ≡ decode (twoDigits (v * 8 + (b - 48))) l
+  unfolding decode
+  decode-second v i = rw (is-octal b i)
+
+  pub decode-third : (v : ℕ) → (48 ≤ b) × (b ≤ 55) → v * 8 + (b - 48) ≤ 255 → decode (twoDigits v) (b ∷ l) ≡ emit (v * 8 + (b - 48)) (decode plain l)
+  unfolding decode
+  decode-third v i k = rw (is-octal b i, le-leb (v * 8 + (b - 48)) 255 k)
+
+  pub decode-over : (v : ℕ) → 255 < v * 8 + (b - 48) → decode (twoDigits v) (b ∷ l) ≡ bad
+  unfolding decode
+  decode-over v k = rw (lt-leb (v * 8 + (b - 48)) 255 k, both-false (octal b))
+
+  pub decode-no-second : (v : ℕ) → ((48 ≤ b) × (b ≤ 55) → ⊥) → decode (oneDigit v) (b ∷ l) ≡ bad
+  unfolding decode
+  decode-no-second v h = rw (not-octal b h)
+
+  pub decode-no-third : (v : ℕ) → ((48 ≤ b) × (b ≤ 55) → ⊥) → decode (twoDigits v) (b ∷ l) ≡ bad
+  unfolding decode
+  decode-no-third v h = rw (not-octal b h)
+
+-- ---- decoding a field's text at a place
+
+module _ (b n : ℕ) (t : Text) where
+  abbrev here : List ℕ
+  here = upto 58 (lineText (byte b n t))
+
+  abbrev next : List ℕ
+  next = upto 58 (lineText t)
+
+  field-either : (here ≡ []) ⊎ (here ≡ b ∷ next)
+  field-either = go (eqb b 10) refl (eqb b 58) refl
+    where
+      go : (x : Bool) → eqb b 10 ≡ x → (y : Bool) → eqb b 58 ≡ y → (here ≡ []) ⊎ (here ≡ b ∷ next)
+      go true e y f = inl (field-end b n t (inl (eqb-true b 10 e)))
+      go false e true f = inl (field-end b n t (inr (eqb-true b 58 f)))
+      go false e false f = inr (field-on b n t (λ s. ⊎-elim (eqb-false b 10 e) (eqb-false b 58 f) s))
+
+  -- a byte that is bad in a mode ends in bad, also where it ends the field
+  bad-at : (m : Mode) → (m ≡ plain → ⊥) → decode m (b ∷ next) ≡ bad → decode m here ≡ bad
+  bad-at m h e = ⊎-elim (λ s. ap (decode m) s ∙ decode-cut m h) (λ s. ap (decode m) s ∙ e) field-either
+
+  no-end : (low : ℕ) → 10 < low → low ≤ b → (b ≡ 58 → ⊥) → here ≡ b ∷ next
+  no-end low h k m = field-on b n t (λ s. ⊎-elim (λ e. omega arith) m s)
+
+  pub at-third : (v : ℕ) → 48 ≤ b → b ≤ 55 → v * 8 + (b - 48) ≤ 255 → decode (twoDigits v) here ≡ emit (v * 8 + (b - 48)) (decode plain next)
+  at-third v i j k = rw (no-end 48 (omega arith) i (omega arith)) (decode-third b next v (i, j) k)
+
+  pub at-over : (v : ℕ) → 255 < v * 8 + (b - 48) → decode (twoDigits v) here ≡ bad
+  at-over v k = bad-at (twoDigits v) (λ e. let z : _≡_ {A = ℕ} 0 1 = cc in omega arith) (decode-over b next v k)
+
+  pub at-no-third : (v : ℕ) → ((48 ≤ b) × (b ≤ 55) → ⊥) → decode (twoDigits v) here ≡ bad
+  at-no-third v h = bad-at (twoDigits v) (λ e. let z : _≡_ {A = ℕ} 0 1 = cc in omega arith) (decode-no-third b next v h)
+
+  pub at-second : (v : ℕ) → 48 ≤ b → b ≤ 55 → decode (oneDigit v) here ≡ decode (twoDigits (v * 8 + (b - 48))) next
+  at-second v i j = rw (no-end 48 (omega arith) i (omega arith)) (decode-second b next v (i, j))
+
+  pub at-no-second : (v : ℕ) → ((48 ≤ b) × (b ≤ 55) → ⊥) → decode (oneDigit v) here ≡ bad
+  at-no-second v h = bad-at (oneDigit v) (λ e. let z : _≡_ {A = ℕ} 0 1 = cc in omega arith) (decode-no-second b next v h)
+
+pub at-nothing : (m : Mode) → (m ≡ plain → ⊥) → decode m (upto 58 (lineText end)) ≡ bad
+at-nothing m h = ap (decode m) field-nil ∙ decode-cut m h
+
+module _ (b n : ℕ) (t : Text) where
+  pub at-done : (b ≡ 10) ⊎ (b ≡ 58) → decode plain (upto 58 (lineText (byte b n t))) ≡ good []
+  at-done e = ap (decode plain) (field-end b n t e) ∙ decode-done
+
+  pub at-slash : b ≡ 92 → decode plain (upto 58 (lineText (byte b n t))) ≡ decode slash (upto 58 (lineText t))
+  at-slash e = rw (no-end b n t 92 (omega arith) (omega arith) (omega arith)) (decode-slash b _ e)
+
+  pub at-caret : b ≡ 94 → decode plain (upto 58 (lineText (byte b n t))) ≡ decode caret (upto 58 (lineText t))
+  at-caret e = rw (no-end b n t 94 (omega arith) (omega arith) (omega arith)) (decode-caret b _ e)
+
+  pub at-byte : (b ≡ 58 → ⊥) → (b ≡ 92 → ⊥) → (b ≡ 94 → ⊥) → 32 ≤ b → b ≤ 126 → decode plain (upto 58 (lineText (byte b n t))) ≡ emit b (decode plain (upto 58 (lineText t)))
+  at-byte m h k i j = rw (no-end b n t 32 (omega arith) i m) (decode-byte b _ h k (i, j))
+
+  pub at-odd : ((b ≡ 10) ⊎ (b ≡ 58) → ⊥) → (b ≡ 92 → ⊥) → (b ≡ 94 → ⊥) → ((32 ≤ b) × (b ≤ 126) → ⊥) → decode plain (upto 58 (lineText (byte b n t))) ≡ bad
+  at-odd m h k i = rw (field-on b n t m) (decode-odd b _ h k i)
+
+  pub at-control : 63 ≤ b → b ≤ 126 → decode caret (upto 58 (lineText (byte b n t))) ≡ emit (control b) (decode plain (upto 58 (lineText t)))
+  at-control i j = rw (no-end b n t 63 (omega arith) i (omega arith)) (decode-control b _ (i, j))
+
+  pub at-no-control : ((63 ≤ b) × (b ≤ 126) → ⊥) → decode caret (upto 58 (lineText (byte b n t))) ≡ bad
+  at-no-control h = bad-at b n t caret (λ e. let z : _≡_ {A = ℕ} 0 1 = cc in omega arith) (decode-no-control b _ h)
+
+  pub at-first : 48 ≤ b → b ≤ 55 → decode slash (upto 58 (lineText (byte b n t))) ≡ decode (oneDigit (b - 48)) (upto 58 (lineText t))
+  at-first i j = rw (no-end b n t 48 (omega arith) i (omega arith)) (decode-first b _ (i, j))
+
+  -- a letter c of the table, whose byte is v
+  pub at-letter : (c v : ℕ) → b ≡ c → 58 < c → escaped c ≡ v → v ≤ 255 → decode slash (upto 58 (lineText (byte b n t))) ≡ emit v (decode plain (upto 58 (lineText t)))
+  at-letter c v e h f k = rw (no-end b n t 59 (omega arith) (omega arith) (omega arith)) (decode-letter b _ v (λ w. omega arith) (ap escaped e ∙ f) k)
+
+  pub at-no-letter : ((48 ≤ b) × (b ≤ 55) → ⊥) → escaped b ≡ 256 → decode slash (upto 58 (lineText (byte b n t))) ≡ bad
+  at-no-letter h e = bad-at b n t slash (λ s. let z : _≡_ {A = ℕ} 0 1 = cc in omega arith) (decode-no-letter b _ h e)
+
+pub escaped-not : (b : ℕ) → (b ≡ 69 → ⊥) → (b ≡ 110 → ⊥) → (b ≡ 114 → ⊥) → (b ≡ 116 → ⊥) → (b ≡ 98 → ⊥) → (b ≡ 102 → ⊥) → (b ≡ 94 → ⊥) → (b ≡ 92 → ⊥) → escaped b ≡ 256
+unfolding escaped
+escaped-not b e n r t b′ f h s =
+    rw (ne-eqb b 69 e, ne-eqb b 110 n, ne-eqb b 114 r, ne-eqb b 116 t, ne-eqb b 98 b′, ne-eqb b 102 f, ne-eqb b 94 h, ne-eqb b 92 s)
+
+pub at-close : decode plain (upto 58 (lineText end)) ≡ good []
+at-close = ap (decode plain) field-nil ∙ decode-done
+
+pub at-control-is : (b n : ℕ) (t : Text) (v : ℕ) → 63 ≤ b → b ≤ 126 → control b ≡ v → decode caret (upto 58 (lineText (byte b n t))) ≡ emit v (decode plain (upto 58 (lineText t)))
+at-control-is b n t v i j e = at-control b n t i j ∙ ap (λ (x : ℕ). emit x (decode plain (upto 58 (lineText t)))) e
+
+pub control-127 : (b : ℕ) → b ≡ 63 → control b ≡ 127
+unfolding control
+control-127 b e = rw (eq-eqb b 63 e)
+
+pub control-mod : (b : ℕ) → 63 < b → control b ≡ b % 32
+unfolding control
+control-mod b h = rw (ne-eqb b 63 (omega arith))
+
+pub digit-small : (b : ℕ) → b < 56 → b - 48 < 8
+digit-small b h = omega arith
+
+-- ---- a line's size by its length: oneDigit more if its last field is open
+
+unfoldable pub open-end : List ℕ → ℕ
+open-end [] = 0
+open-end (b ∷ []) = pick (eqb b 58) 0 1
+open-end (b ∷ c ∷ l) = open-end (c ∷ l)
+
+grow-size : (b : ℕ) (f : List ℕ) (fs : List (List ℕ)) → size (grow b (f ∷ fs)) ≡ 1 + size (f ∷ fs)
+unfolding grow size
+grow-size b f fs = omega arith
+
+pub split-size : (l : List ℕ) → size (split l) ≡ length l + open-end l
+unfolding split open-end size grow
+split-size [] = refl
+split-size (b ∷ []) = go (eqb b 58)
+  where
+    go : (x : Bool) → size (pick x ([] ∷ []) ((b ∷ []) ∷ [])) ≡ 1 + pick x 0 1
+    go true = refl
+    go false = refl
+split-size (b ∷ c ∷ l) = go (eqb b 58) (split-size (c ∷ l))
+  where
+    go : (x : Bool) → size (split (c ∷ l)) ≡ length (c ∷ l) + open-end (c ∷ l)
+        → size (pick x ([] ∷ split (c ∷ l)) (grow b (split (c ∷ l)))) ≡ suc (length (c ∷ l)) + open-end (c ∷ l)
+    go true h = omega arith
+    go false h = rw (split-first c l) (omega (arith, grow-size b (upto 58 (c ∷ l)) (split (past 58 (c ∷ l))), ap size (split-first c l)))
+
+-- For a line with a colon: its joined length, and oneDigit more if it does not end in a colon.
+pub line-size : (l : List ℕ) → holds 58 l ≡ true → lineSize l ≡ length l + open-end (past 58 l)
+unfolding lineSize fieldsOf
+line-size l h = omega (arith, split-size (past 58 l), ap length (line-parts l h), length-append (namesOf l) (58 ∷ past 58 l))

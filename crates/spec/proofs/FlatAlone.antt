@@ -1,0 +1,124 @@
+-- Flat as a database: the same answers, the same records at place 0, the same Flat.
+-- Assumes nothing.
+use Prim.Native.Nat.{ℕ, zero, suc, _+_, _*_, _≤_, _<_}
+use mathlib.Core.Path.{_≡_, refl, _∙_, ap, sym}
+use mathlib.Core.Bool.{Bool, true, false, not}
+use mathlib.Core.List.{List, [], _∷_, _++_}
+use native.Mathlib.Omega.{arith}
+use borrow.Author.Tests.{ltb-false, le-ltb, leb-true}
+use lib.Dec.{leb, ltb, lit<}
+use lib.ListN.{length, take, drop, length-append}
+use Rattle.spec.specs.Choice.{pick}
+use Rattle.spec.specs.Refusals.{goodName, goodId, tooLarge}
+use Rattle.spec.specs.declared.Kind.{Kind}
+use Rattle.spec.specs.declared.Kind.the-variants.{Flag, Number, String}
+use Rattle.spec.specs.Fields.{Reading, malformed, ignored, link, capability, reading, kindNumber, withColons, size}
+use Rattle.spec.proofs.FieldTexts.{length-closed}
+use Rattle.spec.specs.declared.Refusal.{Refusal}
+use Rattle.spec.specs.declared.Refusal.the-variants.{BadName, BadId, DatabaseTooLarge, NoRoom}
+use Rattle.spec.specs.Chain.{Field, placed, texts, Terminal, refused, terminal, resolve}
+use Rattle.spec.proofs.AcceptedChain.{Sound, resolved-sound, resolve-alone, texts-placed}
+use Rattle.spec.specs.declared.Answer.{Answer}
+use Rattle.spec.specs.declared.Answer.the-variants.{Present, Absent, Refused}
+use Rattle.spec.specs.Questions.{terminalOf, terminalFor, answerFor, flagAnswer, numberAnswer, stringFor, stringOutcome}
+use Rattle.spec.specs.Lookup.{canWin, winning}
+use Rattle.spec.specs.Answers.{Outcome, put}
+use Rattle.spec.proofs.Removal.{AllWin, win-judge, lookup-placed}
+use Rattle.spec.proofs.Winning.{winning-wins, winning-same, winning-sound, lookup-winning}
+use Rattle.spec.specs.Listing.{recordOf, records, listFor, listOutcome, flatText, flatFor, flatOutcome}
+
+-- ---- an accepted call
+
+-- The name is good, and what the walk gave.
+pub opened-name : (db name names : List ℕ) (fs : List Field) → terminalOf db name ≡ terminal names fs → goodName name ≡ true
+unfolding terminalOf
+opened-name db name names fs e = go (goodName name) refl e
+  where
+    go : (x : Bool) → goodName name ≡ x → pick x (pick (tooLarge db) (refused DatabaseTooLarge) (resolve db name)) (refused BadName) ≡ terminal names fs → goodName name ≡ true
+    go true h q = h
+    go false h q = let z : _≡_ {A = ℕ} 0 1 = cc in absurd (omega arith)
+
+pub opened-resolved : (db name names : List ℕ) (fs : List Field) → terminalOf db name ≡ terminal names fs → resolve db name ≡ terminal names fs
+unfolding terminalOf
+opened-resolved db name names fs e = go (goodName name) (tooLarge db) e
+  where
+    go : (x y : Bool) → pick x (pick y (refused DatabaseTooLarge) (resolve db name)) (refused BadName) ≡ terminal names fs → resolve db name ≡ terminal names fs
+    go true true q = let z : _≡_ {A = ℕ} 0 1 = cc in absurd (omega arith)
+    go true false q = q
+    go false y q = let z : _≡_ {A = ℕ} 0 1 = cc in absurd (omega arith)
+
+-- ---- answers over terminals
+
+pub answer-flat : (id : List ℕ) (k : Kind) (names : List ℕ) (fs : List Field) → answerFor id k (terminal names (placed 0 (texts (winning fs)))) ≡ answerFor id k (terminal names fs)
+unfolding answerFor
+answer-flat id Flag names fs = rw (lookup-placed id 1 0 (winning fs), lookup-winning fs id 1 (lit< tt))
+answer-flat id Number names fs = rw (lookup-placed id 2 0 (winning fs), lookup-winning fs id 2 (lit< tt))
+answer-flat id String names fs = rw (lookup-placed id 3 0 (winning fs), lookup-winning fs id 3 (lit< tt))
+
+pub string-flat : (id names buffer : List ℕ) (fs : List Field) → stringFor id (terminal names (placed 0 (texts (winning fs)))) buffer ≡ stringFor id (terminal names fs) buffer
+unfolding stringFor
+string-flat id names buffer fs = rw (lookup-placed id 3 0 (winning fs), lookup-winning fs id 3 (lit< tt))
+
+pub winning-flat : (fs : List Field) → winning (placed 0 (texts (winning fs))) ≡ placed 0 (texts (winning fs))
+winning-flat fs = winning-same (placed 0 (texts (winning fs))) (rw texts-placed (winning-wins fs))
+
+pub text-flat : (names : List ℕ) (fs : List Field) → flatText names (placed 0 (texts (winning fs))) ≡ flatText names fs
+unfolding flatText
+text-flat names fs = rw (winning-flat fs, texts-placed)
+
+-- ---- Flat alone
+
+flat-fits : (name names : List ℕ) (fs : List Field) → Sound name names (texts fs) → tooLarge (flatText names fs) ≡ false
+unfolding tooLarge flatText size
+flat-fits name names fs k =
+    let w = winning-sound fs name names k in
+    le-ltb 1048576 (length (flatText names fs)) (omega (arith, w .fits, length-append (withColons (names ∷ texts (winning fs))) (10 ∷ []), length-closed (names ∷ texts (winning fs))))
+
+module _ (db name names : List ℕ) (fs : List Field) (accepted : terminalOf db name ≡ terminal names fs) where
+  pub sound : Sound name names (texts fs)
+  sound = resolved-sound db name names fs (opened-resolved db name names fs accepted)
+
+  resolve-flat : resolve (flatText names fs) name ≡ terminal names (placed 0 (texts (winning fs)))
+  unfolding flatText
+  resolve-flat = resolve-alone name names (texts (winning fs)) (winning-sound fs name names sound) (win-judge (texts (winning fs)) (winning-wins fs))
+
+  pub opened-flat : terminalOf (flatText names fs) name ≡ terminal names (placed 0 (texts (winning fs)))
+  unfolding terminalOf
+  opened-flat = rw (opened-name db name names fs accepted, flat-fits name names fs sound) resolve-flat
+
+  -- A question's terminal: refused for the id alone, or what List and Flat are about.
+  pub asked-is : (base id : List ℕ) → terminalFor base name id ≡ pick (goodId id) (terminalOf base name) (refused BadId)
+  unfolding terminalFor
+  asked-is base id = rw (opened-name db name names fs accepted)
+
+  pub flag-same : (id : List ℕ) → flagAnswer (flatText names fs) name id ≡ flagAnswer db name id
+  unfolding flagAnswer
+  flag-same id = rw (asked-is (flatText names fs) id, asked-is db id, opened-flat, accepted) (go (goodId id))
+    where
+      go : (x : Bool) → answerFor id Flag (pick x (terminal names (placed 0 (texts (winning fs)))) (refused BadId)) ≡ answerFor id Flag (pick x (terminal names fs) (refused BadId))
+      go true = answer-flat id Flag names fs
+      go false = refl
+
+  pub number-same : (id : List ℕ) → numberAnswer (flatText names fs) name id ≡ numberAnswer db name id
+  unfolding numberAnswer
+  number-same id = rw (asked-is (flatText names fs) id, asked-is db id, opened-flat, accepted) (go (goodId id))
+    where
+      go : (x : Bool) → answerFor id Number (pick x (terminal names (placed 0 (texts (winning fs)))) (refused BadId)) ≡ answerFor id Number (pick x (terminal names fs) (refused BadId))
+      go true = answer-flat id Number names fs
+      go false = refl
+
+  pub string-same : (id buffer : List ℕ) → stringOutcome (flatText names fs) name id buffer ≡ stringOutcome db name id buffer
+  unfolding stringOutcome
+  string-same id buffer = rw (asked-is (flatText names fs) id, asked-is db id, opened-flat, accepted) (go (goodId id))
+    where
+      go : (x : Bool) → stringFor id (pick x (terminal names (placed 0 (texts (winning fs)))) (refused BadId)) buffer ≡ stringFor id (pick x (terminal names fs) (refused BadId)) buffer
+      go true = string-flat id names buffer fs
+      go false = refl
+
+  pub list-same : (buffer : List ℕ) → listOutcome (flatText names fs) name buffer ≡ put (records (placed 0 (texts (winning fs)))) (length (placed 0 (texts (winning fs)))) buffer
+  unfolding listOutcome listFor
+  list-same buffer = rw (opened-flat, winning-flat fs)
+
+  pub flat-same : (buffer : List ℕ) → flatOutcome (flatText names fs) name buffer ≡ flatOutcome db name buffer
+  unfolding flatOutcome flatFor
+  flat-same buffer = rw (opened-flat, accepted, text-flat names fs)

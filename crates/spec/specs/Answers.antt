@@ -1,0 +1,53 @@
+-- What an operation with output gives: an answer and the lent buffer afterwards; and document 01's numbers for each answer.
+use Prim.Native.Nat.{ℕ}
+use mathlib.Core.List.{List, [], _∷_, _++_}
+use lib.Dec.{leb}
+use lib.ListN.{length, drop}
+use Rattle.spec.specs.Choice.{pick}
+use Rattle.spec.specs.Refusals.{refusalNumber}
+use Rattle.spec.specs.declared.Refusal.{Refusal}
+use Rattle.spec.specs.declared.Refusal.the-variants.{NoRoom}
+use Rattle.spec.specs.declared.Answer.{Answer}
+use Rattle.spec.specs.declared.Answer.the-variants.{Present, Absent, Refused}
+use Rattle.spec.specs.declared.Written.{Written}
+use Rattle.spec.specs.declared.Written.the-variants.{Count, Refused as NotWritten}
+use Rattle.spec.specs.declared.Shown.{Shown}
+use Rattle.spec.specs.declared.Shown.the-variants.{Part, Refused as NotShown}
+
+pub record Outcome (A : Type 0) : Type 0 where
+  pub answer : A
+  pub buffer : List ℕ
+
+-- "The output buffer keeps every byte."
+abbrev pub keeping : {A : Type 0} → A → List ℕ → Outcome A
+keeping answer buffer = record { answer = answer; buffer = buffer }
+
+-- Bytes for the start of a buffer, and the number to report of them. Where they do not fit (9), no byte changes; where they do, only
+-- those.
+unfoldable pub put : List ℕ → ℕ → List ℕ → Outcome Written
+put bytes n buffer =
+    pick (leb (length bytes) (length buffer))
+    (record { answer = Count n; buffer = bytes ++ drop (length bytes) buffer })
+    (keeping (NotWritten NoRoom) buffer)
+
+-- ---- document 01's numbers: the refusal, or 0 and the values that the answer reports (none if absent)
+
+pub record Paper : Type 0 where
+  pub refusal : ℕ
+  pub values : List ℕ
+
+abbrev pub refusedOnPaper : Refusal → Paper
+refusedOnPaper r = record { refusal = refusalNumber r; values = [] }
+
+abbrev pub answerOnPaper : Answer → Paper
+answerOnPaper (Present v) = record { refusal = 0; values = v ∷ [] }
+answerOnPaper Absent = record { refusal = 0; values = [] }
+answerOnPaper (Refused r) = refusedOnPaper r
+
+abbrev pub writtenOnPaper : Written → Paper
+writtenOnPaper (Count n) = record { refusal = 0; values = n ∷ [] }
+writtenOnPaper (NotWritten r) = refusedOnPaper r
+
+abbrev pub shownOnPaper : Shown → Paper
+shownOnPaper (Part from to) = record { refusal = 0; values = from ∷ to ∷ [] }
+shownOnPaper (NotShown r) = refusedOnPaper r

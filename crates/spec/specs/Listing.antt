@@ -1,0 +1,48 @@
+-- List and Flat: from the inputs and the lent buffer to the answer and the buffer afterwards.
+use Prim.Native.Nat.{ℕ, _/_, _%_}
+use mathlib.Core.List.{List, [], _∷_, _++_}
+use lib.ListN.{length}
+use Rattle.spec.specs.Fields.{Reading, malformed, ignored, link, capability, reading, withColons, contentKind, contentValue}
+use Rattle.spec.specs.Chain.{Field, texts, Terminal, refused, terminal}
+use Rattle.spec.specs.Lookup.{winning}
+use Rattle.spec.specs.Answers.{Outcome, keeping, put}
+use Rattle.spec.specs.Questions.{terminalOf}
+use Rattle.spec.specs.declared.Written.{Written}
+use Rattle.spec.specs.declared.Written.the-variants.{Count, Refused}
+
+-- ---- List
+
+-- "A 32-bit value, high byte first."
+abbrev pub fourBytes : ℕ → List ℕ
+fourBytes v = v / 16777216 % 256 ∷ v / 65536 % 256 ∷ v / 256 % 256 ∷ v % 256 ∷ []
+
+-- "Two name bytes; kind; place of the description in the chain from 0; a 32-bit value."
+unfoldable pub recordOf : ℕ → Reading → List ℕ
+recordOf place malformed = []
+recordOf place ignored = []
+recordOf place (link n) = []
+recordOf place (capability a b c) = a ∷ b ∷ contentKind c ∷ place ∷ fourBytes (contentValue c)
+
+-- "Records stand in the order of the winning fields. No header."
+unfoldable pub records : List Field → List ℕ
+records [] = []
+records (f ∷ fs) = recordOf (f .place) (reading (f .text)) ++ records fs
+
+unfoldable pub listFor : Terminal → List ℕ → Outcome Written
+listFor (refused r) buffer = keeping (Refused r) buffer
+listFor (terminal names fs) buffer = put (records (winning fs)) (length (winning fs)) buffer
+
+unfoldable pub listOutcome : List ℕ → List ℕ → List ℕ → Outcome Written
+listOutcome db name buffer = listFor (terminalOf db name) buffer
+
+-- ---- Flat: "the first line's names, a colon, then each winning field as written (joined) with a colon, then a newline"
+
+unfoldable pub flatText : List ℕ → List Field → List ℕ
+flatText names fs = withColons (names ∷ texts (winning fs)) ++ 10 ∷ []
+
+unfoldable pub flatFor : Terminal → List ℕ → Outcome Written
+flatFor (refused r) buffer = keeping (Refused r) buffer
+flatFor (terminal names fs) buffer = put (flatText names fs) (length (flatText names fs)) buffer
+
+unfoldable pub flatOutcome : List ℕ → List ℕ → List ℕ → Outcome Written
+flatOutcome db name buffer = flatFor (terminalOf db name) buffer

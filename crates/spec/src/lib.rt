@@ -1,0 +1,113 @@
+// The types that the definitions of specs/ and the code share: the answers of the operations, and the kinds of a capability.
+// The types of positions are in position.rt.
+ghost use mathlib.Core.Path.{_≡_};
+ghost use Rattle.spec.specs.Refusals.{refusalNumber};
+ghost use Rattle.spec.specs.Fields.{kindNumber, kindOf};
+
+pub mod position;
+
+// Why a call is refused. specs/Refusals gives each its number.
+pub enum Refusal {
+    BadName,
+    BadId,
+    DatabaseTooLarge,
+    UnknownName,
+    LostLink,
+    Malformed,
+    Cycle,
+    ChainTooLarge,
+    NoRoom,
+    UnknownSequence,
+    TooFewParameters,
+    OutOfRange,
+    BadPadding,
+}
+
+impl Refusal {
+    pub fn number(self) -> u8
+        ensures { λ n. ⌜ n ≡ refusalNumber self ⌝ }
+    {
+        match self {
+            Refusal::BadName => 1,
+            Refusal::BadId => 2,
+            Refusal::DatabaseTooLarge => 3,
+            Refusal::UnknownName => 4,
+            Refusal::LostLink => 5,
+            Refusal::Malformed => 6,
+            Refusal::Cycle => 7,
+            Refusal::ChainTooLarge => 8,
+            Refusal::NoRoom => 9,
+            Refusal::UnknownSequence => 10,
+            Refusal::TooFewParameters => 11,
+            Refusal::OutOfRange => 12,
+            Refusal::BadPadding => 13,
+        }
+    }
+}
+
+// The kinds of a capability, and their numbers.
+pub enum Kind {
+    Flag,
+    Number,
+    String,
+}
+
+// The kind of a number, if it is the number of one.
+pub enum Numbered {
+    Is(Kind),
+    Nothing,
+}
+
+impl Kind {
+    pub const FLAG: u8 = 1;
+
+    pub const NUMBER: u8 = 2;
+
+    pub const STRING: u8 = 3;
+
+    pub fn number(self) -> u8
+        ensures { λ n. ⌜ n ≡ kindNumber self ⌝ }
+    {
+        match self {
+            Kind::Flag => Kind::FLAG,
+            Kind::Number => Kind::NUMBER,
+            Kind::String => Kind::STRING,
+        }
+    }
+
+    pub fn from_number(n: u8) -> Numbered
+        ensures { λ k. ⌜ k ≡ kindOf n ⌝ }
+    {
+        match n {
+            Kind::FLAG => Numbered::Is(Kind::Flag),
+            Kind::NUMBER => Numbered::Is(Kind::Number),
+            Kind::STRING => Numbered::Is(Kind::String),
+            _ => Numbered::Nothing,
+        }
+    }
+}
+
+// The answer to Flag, Number and String: the value, or the count of the bytes that were written.
+pub enum Answer {
+    Present(u32),
+    Absent,
+    Refused(Refusal),
+}
+
+// The answer of List, Flat, Send and Send at: the number of records, or of bytes, that were written.
+pub enum Written {
+    Count(usize),
+    Refused(Refusal),
+}
+
+// The answer of Show: the part of the database from a place up to a place.
+pub enum Shown {
+    Part(usize, usize),
+    Refused(Refusal),
+}
+
+// The answer of a search for a line: the place in the database where it starts.
+pub enum Found {
+    At(usize),
+    Nothing,
+}
