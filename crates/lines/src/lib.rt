@@ -1,7 +1,6 @@
 // Finds the line of a terminal in a termcap database. A place is an index of the raw database. The joined text at a place is what
 // stands from there on once each backslash that a newline follows has vanished with that newline.
 use spec::Found;
-
 ghost use mathlib.Core.Path.{_≡_};
 ghost use Rattle.spec.specs.Lists.{same};
 ghost use Rattle.spec.specs.Lines.{textAt, lineText, blank, isIgnored, firstName, findLine};
