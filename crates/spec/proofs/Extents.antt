@@ -1,14 +1,13 @@
 -- The raw extent of a line lies in the database, and so does the place of a line that is found.
 -- Assumes nothing.
-use Prim.Native.Nat.{ℕ, zero, suc, _+_, _-_, _≤_}
-use mathlib.Core.Path.{_≡_, refl, _∙_, ap, sym}
+use Prim.Native.Nat.{ℕ, _+_, _-_, _≤_}
+use mathlib.Core.Path.{_≡_, refl}
 use mathlib.Core.Bool.{Bool, true, false, not}
 use mathlib.Core.List.{List, [], _∷_}
 use native.Mathlib.Omega.{arith}
 use lib.Dec.{eqb}
 use lib.ListN.{length, drop, length-drop}
-use Rattle.spec.specs.declared.Found.{Found}
-use Rattle.spec.specs.declared.Found.the-variants.{At, Nothing}
+use Rattle.spec.specs.declared.Found.the-variants.{At}
 use Rattle.spec.specs.Choice.{pick, both}
 use Rattle.spec.specs.Lines.{Text, end, byte, join, textAt, Line, lineText, laterLines, isIgnored, hasName, find, findLine, lineEnd, extent}
 

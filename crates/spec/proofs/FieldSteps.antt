@@ -1,7 +1,7 @@
 -- Names, fields and string texts as a reader meets them, byte by byte.
 -- Assumes nothing.
 use Prim.Native.Nat.{ℕ, suc, _+_, _-_, _*_, _%_, _≤_, _<_}
-use mathlib.Core.Path.{_≡_, refl, _∙_, ap, sym}
+use mathlib.Core.Path.{_≡_, refl, _∙_, ap}
 use mathlib.Core.Bool.{Bool, true, false}
 use mathlib.Core.List.{List, [], _∷_, _++_}
 use mathlib.Core.Logic.{_⊎_, inl, inr, ⊎-elim}
@@ -9,7 +9,7 @@ use native.Mathlib.Omega.{arith}
 use borrow.Author.Tests.{eq-eqb, ne-eqb, le-leb, lt-leb, leb-true, lt-ltb, ltb-true, eqb-true, eqb-false}
 use lib.Dec.{eqb, leb, ltb}
 use lib.ListN.{length, length-append}
-use Rattle.spec.specs.Choice.{pick, both, either, between}
+use Rattle.spec.specs.Choice.{pick, both, between}
 use Rattle.spec.specs.Lines.{Text, end, byte, lineText}
 use Rattle.spec.specs.Lists.{upto, holds, past}
 use Rattle.spec.proofs.TextSteps.{line-end, line-on}

@@ -2,10 +2,9 @@
 -- Assumes nothing.
 use Prim.Native.Nat.{ℕ}
 use mathlib.Core.Path.{_≡_, refl}
-use mathlib.Core.Bool.{Bool, true, false}
+use mathlib.Core.Bool.{true, false}
 use mathlib.Core.List.{List, [], _∷_}
-use Rattle.spec.specs.Choice.{pick, both}
-use Rattle.spec.specs.Fields.{Content, Reading, malformed, ignored, link, capability, reading, isIgnoredField, allIgnored, judged, Verdict, malformedLine, noLink, linkTo, judge, fieldsOf, verdict}
+use Rattle.spec.specs.Fields.{Content, malformed, ignored, link, capability, reading, isIgnoredField, allIgnored, judged, malformedLine, noLink, linkTo, judge, fieldsOf, verdict}
 use Rattle.spec.specs.Lists.{holds}
 
 pub judge-nil : judge [] ≡ noLink

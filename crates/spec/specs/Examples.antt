@@ -1,9 +1,8 @@
 -- "The bench's marked examples": (a) to (l), each a call with the answer and the buffer that document 01 states.
-use Prim.Native.Nat.{ℕ}
 use Prim.Native.String.{String as Chars}
 use mathlib.Core.List.{List, [], _∷_}
 use lib.ListN.{replicate}
-use Rattle.spec.specs.Calls.{ascii, Call, flag, number, list, flat, send, sendAt, reports, refuses, Example, example, AllHold}
+use Rattle.spec.specs.Calls.{ascii, flag, number, list, flat, send, sendAt, reports, refuses, Example, example, AllHold}
 
 abbrev pub wholeCase : Chars
 wholeCase = "N9|aaa:am:li#30:tc=aaa-unk:\nNY|aaa-unk:co#80:li#48:cl=\\E[H:\nQZ|aaa-nam:am@:tc=aaa:\n"

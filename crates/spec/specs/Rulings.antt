@@ -2,7 +2,7 @@
 use Prim.Native.Nat.{ℕ}
 use mathlib.Core.List.{List, [], _∷_, _++_}
 use lib.ListN.{replicate}
-use Rattle.spec.specs.Calls.{ascii, Call, show, flag, number, string, list, flat, send, sendAt, reports, refuses, Example, example, AllHold}
+use Rattle.spec.specs.Calls.{ascii, show, flag, number, string, list, send, sendAt, reports, refuses, Example, example, AllHold}
 
 -- ---- lines and names
 
