@@ -1,0 +1,158 @@
+// Finds the line of a terminal in a termcap database. A place is an index of the raw database. The joined text at a place is what
+// stands from there on once each backslash that a newline follows has vanished with that newline.
+use spec::Found;
+ghost use mathlib.Core.Path.{_≡_};
+ghost use Rattle.spec.specs.Lists.{same};
+ghost use Rattle.spec.specs.Lines.{textAt, lineText, blank, isIgnored, firstName, findLine};
+ghost use Rattle.lines.specs.Answers.{Peeked, NextLine, NextName};
+
+// What the joined text at a place starts with: a byte, with the place after it, or the end of the database.
+pub enum Step {
+    Byte(u8, usize),
+    End,
+}
+
+// The place where the next line or the next name starts, if there is one.
+pub enum Next {
+    To(usize),
+    Last,
+}
+
+// The first byte of the joined text at a place.
+pub fn peek(s: &[u8], at: usize) -> Step
+    ensures { λ r. ⌜ Peeked (now (s .entry)) at r ⌝ }
+{
+    let mut i = at;
+    while i < s.len() {
+        let b = s[i];
+        let j = i + 1;
+        if b == 92 {
+            if j < s.len() {
+                if s[j] == 10 {
+                    i = j + 1;
+                    continue;
+                }
+            }
+        }
+        return Step::Byte(b, j);
+    }
+    Step::End
+}
+
+// Where the line after the one at a place starts.
+pub fn next_line(s: &[u8], at: usize) -> Next
+    ensures { λ r. ⌜ NextLine (now (s .entry)) at r ⌝ }
+{
+    let mut i = at;
+    loop {
+        match peek(s, i) {
+            Step::Byte(b, n) => {
+                if b == 10 {
+                    return Next::To(n);
+                }
+                i = n;
+            }
+            Step::End => return Next::Last,
+        }
+    }
+}
+
+// Whether the line at a place has only spaces and tabs.
+fn is_blank(s: &[u8], at: usize) -> bool
+    ensures { λ r. ⌜ r ≡ blank (lineText (textAt (now (s .entry)) at)) ⌝ }
+{
+    let mut i = at;
+    loop {
+        match peek(s, i) {
+            Step::Byte(b, n) => match b {
+                10 => return true,
+                32 | 9 => i = n,
+                _ => return false,
+            },
+            Step::End => return true,
+        }
+    }
+}
+
+// Whether the line at a place is ignored.
+fn is_ignored(s: &[u8], at: usize) -> bool
+    ensures { λ r. ⌜ r ≡ isIgnored (lineText (textAt (now (s .entry)) at)) ⌝ }
+{
+    match peek(s, at) {
+        Step::Byte(b, _) => {
+            if b == 35 {
+                return true;
+            }
+            is_blank(s, at)
+        }
+        Step::End => true,
+    }
+}
+
+// Whether the first name of the line at a place is `name`.
+fn is_name(s: &[u8], at: usize, name: &[u8]) -> bool
+    ensures { λ r. ⌜ r ≡ same (now (name .entry)) (firstName (lineText (textAt (now (s .entry)) at))) ⌝ }
+{
+    let mut i = at;
+    let mut k = 0;
+    loop {
+        match peek(s, i) {
+            Step::Byte(b, n) => match b {
+                10 | 58 | 124 => return k == name.len(),
+                _ => {
+                    if k < name.len() {
+                        if name[k] == b {
+                            k += 1;
+                            i = n;
+                            continue;
+                        }
+                    }
+                    return false;
+                }
+            },
+            Step::End => return k == name.len(),
+        }
+    }
+}
+
+// Where the name after the one at a place starts.
+fn next_name(s: &[u8], at: usize) -> Next
+    ensures { λ r. ⌜ NextName (now (s .entry)) at r ⌝ }
+{
+    let mut i = at;
+    loop {
+        match peek(s, i) {
+            Step::Byte(b, n) => match b {
+                10 | 58 => return Next::Last,
+                124 => return Next::To(n),
+                _ => i = n,
+            },
+            Step::End => return Next::Last,
+        }
+    }
+}
+
+// Where the first line starts that is not ignored and that has the name: lines in the outer loop, names in the inner one.
+pub fn find_line(db: &[u8], name: &[u8]) -> Found
+    ensures { λ r. ⌜ r ≡ findLine (now (db .entry)) (now (name .entry)) ⌝ }
+{
+    let mut at = 0;
+    'lines: loop {
+        if !is_ignored(db, at) {
+            let mut p = at;
+            loop {
+                if is_name(db, p, name) {
+                    break 'lines Found::At(at);
+                }
+                match next_name(db, p) {
+                    Next::To(n) => p = n,
+                    Next::Last => break,
+                }
+            }
+        }
+        match next_line(db, at) {
+            Next::To(n) => at = n,
+            Next::Last => break Found::Nothing,
+        }
+    }
+}
