@@ -1,2 +1,3 @@
 pub mod FieldBytes
 pub mod Pieces
+pub mod Copying

@@ -2,8 +2,11 @@
 // judged by its fields.
 use lines::Step;
 use lines::peek;
+ghost use Prim.Native.Nat.{_+_};
+ghost use mathlib.Core.Path.{_≡_};
+ghost use lib.ListN.{set};
 ghost use Rattle.fields.specs.Answers.{Pieced, NamesPassed};
-ghost use Rattle.fields.specs.Steps.{FieldStep, ColonFound};
+ghost use Rattle.fields.specs.Steps.{FieldStep, ColonFound, Copied};
 
 // The fields from a place on: none; one of so many bytes, the last; or one of so many bytes, and the next from a place on.
 pub enum Piece {
@@ -102,5 +105,35 @@ pub fn after_names(db: &[u8], at: usize) -> AfterNames
     match find_colon(db, at) {
         Colon::After(n, fields) => AfterNames::At(fields, n),
         Colon::Missing(_) => AfterNames::NoColon,
+    }
+}
+
+// Stores a byte, if there is room for it.
+fn store(out: &mut [u8], to: usize, k: usize, b: u8)
+    ensures { λ _. ⌜ now (out .exit) ≡ set (now (out .entry)) (to + k) b ⌝ }
+{
+    if to < out.len() {
+        if k < out.len() - to {
+            out[to + k] = b;
+        }
+    }
+}
+
+// Copies the text of the field at a place, joined and as written, to `out` from `to` on, and tells its length. What has no room is not
+// stored.
+pub fn copy_field(s: &[u8], at: usize, out: &mut [u8], to: usize) -> usize
+    ensures { λ r. ⌜ Copied (now (s .entry)) at (now (out .entry)) to (now (out .exit)) r ⌝ }
+{
+    let mut i = at;
+    let mut k = 0;
+    loop {
+        match field_byte(s, i) {
+            Step::Byte(b, n) => {
+                store(out, to, k, b);
+                k += 1;
+                i = n;
+            }
+            Step::End => return k,
+        }
     }
 }
