@@ -1,3 +1,4 @@
 pub mod FieldBytes
 pub mod Pieces
 pub mod Copying
+pub mod TextSteps

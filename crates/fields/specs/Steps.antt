@@ -12,6 +12,10 @@ use Rattle.lines.specs.declared.Step.{Step}
 use Rattle.lines.specs.declared.Step.the-variants.{Byte, End}
 use Rattle.fields.specs.declared.Colon.{Colon}
 use Rattle.fields.specs.declared.Colon.the-variants.{After, Missing}
+use Rattle.fields.specs.declared.TextStep.{TextStep}
+use Rattle.fields.specs.declared.TextStep.the-variants.{Byte as TextByte, End as TextEnd, Bad as TextBad}
+use Rattle.fields.specs.declared.Decoding.{Decoding}
+use Rattle.fields.specs.declared.Decoding.the-variants.{Good, Bad}
 use Rattle.fields.specs.Answers.{fieldAt}
 
 -- `field_byte`: the field at a place is a byte and the field at the place that it answers, or empty.
@@ -28,3 +32,16 @@ ColonFound s at (Missing n) = (holds 58 (lineAt s at) ≡ false) × (length (fie
 -- `copy_field`: the length of the field at a place; the buffer has its text from `to` on, as far as there is room.
 abbrev pub Copied : List ℕ → ℕ → List ℕ → ℕ → List ℕ → ℕ → Type 0
 Copied s at out to out′ n = (n ≡ length (fieldAt s at)) × (out′ ≡ sets out to (fieldAt s at))
+
+-- The readers of a string's text: with a mode in hand, the text of the field at a place stands for a byte and then for what the field at
+-- the place that they answer stands for; or for nothing more; or it is malformed.
+abbrev pub TextBegins : Mode → List ℕ → ℕ → TextStep → Type 0
+TextBegins m s at (TextByte v n) = (decode m (fieldAt s at) ≡ emit v (decode plain (fieldAt s n))) × (at < n) × (n ≤ length s)
+TextBegins m s at TextEnd = decode m (fieldAt s at) ≡ good []
+TextBegins m s at TextBad = decode m (fieldAt s at) ≡ bad
+
+-- `decode_text`: the bytes that the text of the field at a place stands for are in the buffer from its start on, as far as there is room;
+-- or the text is malformed.
+abbrev pub Decodes : List ℕ → ℕ → List ℕ → List ℕ → Decoding → Type 0
+Decodes s at out out′ (Good n) = (l : List ℕ) × (decode plain (fieldAt s at) ≡ good l) × (length l ≡ n) × (out′ ≡ sets out 0 l)
+Decodes s at out out′ Bad = (decode plain (fieldAt s at) ≡ bad) × (length out′ ≡ length out)
