@@ -4,10 +4,15 @@ use lines::Step;
 use lines::peek;
 ghost use Prim.Native.Nat.{_+_, _<_};
 ghost use mathlib.Core.Path.{_≡_};
+ghost use mathlib.Core.List.{_∷_};
 ghost use lib.ListN.{set};
+ghost use Rattle.spec.specs.Lines.{blank};
+ghost use Rattle.spec.specs.Refusals.{nameByte, goodName, idByte, idBytes};
+ghost use Rattle.spec.specs.Fields.{contentReading};
 ghost use Rattle.spec.specs.Strings.{plain, slash, caret, oneDigit, twoDigits};
-ghost use Rattle.fields.specs.Answers.{Pieced, NamesPassed};
+ghost use Rattle.fields.specs.Answers.{fieldAt, Pieced, Reads, NamesPassed};
 ghost use Rattle.fields.specs.Steps.{FieldStep, ColonFound, Copied, TextBegins, Decodes};
+ghost use Rattle.fields.specs.Readings.{Starts, Numbers, ReadAs, otherReading, nameReading};
 
 // The fields from a place on: none; one of so many bytes, the last; or one of so many bytes, and the next from a place on.
 pub enum Piece {
@@ -51,6 +56,18 @@ pub enum Decoding {
 enum TextStep {
     Byte(u8, usize),
     End,
+    Bad,
+}
+
+// Whether a field starts with some bytes: the place after them.
+enum Start {
+    Before(usize),
+    Other,
+}
+
+// The value of a number's digits, or a fault in them.
+enum Digits {
+    Value(u32),
     Bad,
 }
 
@@ -254,5 +271,240 @@ pub fn decode_text(s: &[u8], at: usize, out: &mut [u8]) -> Decoding
             TextStep::End => return Decoding::Good(k),
             TextStep::Bad => return Decoding::Bad,
         }
+    }
+}
+
+// ---- what a field is read as
+
+// Whether the field at a place has only spaces and tabs.
+fn is_blank_field(s: &[u8], at: usize) -> bool
+    ensures { λ r. ⌜ r ≡ blank (fieldAt (now (s .entry)) at) ⌝ }
+{
+    let mut i = at;
+    loop {
+        match field_byte(s, i) {
+            Step::Byte(b, n) => match b {
+                9 | 32 => i = n,
+                _ => return false,
+            },
+            Step::End => return true,
+        }
+    }
+}
+
+// Whether the field at a place starts with `start`, and the place after that.
+fn after_start(s: &[u8], at: usize, start: &[u8]) -> Start
+    ensures { λ r. ⌜ Starts (now (s .entry)) at (now (start .entry)) r ⌝ }
+{
+    let mut i = at;
+    let mut k = 0;
+    while k < start.len() {
+        match field_byte(s, i) {
+            Step::Byte(b, n) => {
+                if b != start[k] {
+                    return Start::Other;
+                }
+                k += 1;
+                i = n;
+            }
+            Step::End => return Start::Other,
+        }
+    }
+    Start::Before(i)
+}
+
+// A byte of a name, as in refusal 1.
+fn is_name_byte(b: u8) -> bool
+    ensures { λ r. ⌜ r ≡ nameByte b ⌝ }
+{
+    match b {
+        58 | 92 | 124 => false,
+        32..=126 => true,
+        _ => false,
+    }
+}
+
+// Whether the field at a place is a name as in refusal 1.
+fn is_name(s: &[u8], at: usize) -> bool
+    ensures { λ r. ⌜ r ≡ goodName (fieldAt (now (s .entry)) at) ⌝ }
+{
+    let mut i = at;
+    let mut k: usize = 0;
+    loop {
+        match field_byte(s, i) {
+            Step::Byte(b, n) => {
+                if k == 64 {
+                    return false;
+                }
+                if !is_name_byte(b) {
+                    return false;
+                }
+                k += 1;
+                i = n;
+            }
+            Step::End => return k > 0,
+        }
+    }
+}
+
+// A byte of an id, as in refusal 2.
+fn is_id_byte(b: u8) -> bool
+    ensures { λ r. ⌜ r ≡ idByte b ⌝ }
+{
+    match b {
+        58 | 92 => false,
+        33..=126 => true,
+        _ => false,
+    }
+}
+
+// Whether two bytes are an id, as in refusal 2.
+fn is_id(a: u8, b: u8) -> bool
+    ensures { λ r. ⌜ r ≡ idBytes a b ⌝ }
+{
+    if !is_id_byte(a) {
+        return false;
+    }
+    if !is_id_byte(b) {
+        return false;
+    }
+    match a {
+        46 => false,
+        116 => b != 99,
+        _ => true,
+    }
+}
+
+// "1 to 6 decimal digits of at most 65,535."
+fn read_digits(s: &[u8], at: usize) -> Digits
+    ensures { λ r. ⌜ Numbers (now (s .entry)) at r ⌝ }
+{
+    let mut i = at;
+    let mut k: usize = 0;
+    let mut v: u32 = 0;
+    loop {
+        match field_byte(s, i) {
+            Step::Byte(b, n) => {
+                if k == 6 {
+                    return Digits::Bad;
+                }
+                match b {
+                    48..=57 => {
+                        v = v * 10 + wide(b - 48);
+                        k += 1;
+                        i = n;
+                    }
+                    _ => return Digits::Bad,
+                }
+            }
+            Step::End => {
+                if k == 0 {
+                    return Digits::Bad;
+                }
+                if v > 65535 {
+                    return Digits::Bad;
+                }
+                return Digits::Value(v);
+            }
+        }
+    }
+}
+
+fn wide(b: u8) -> u32
+    ensures { λ r. ⌜ r ≡ b ⌝ }
+{
+    b as u32
+}
+
+// What stands after the two name bytes: "nothing (flag); `#` and digits (number); `=` and a text (string); `@` and nothing (cancel)".
+fn read_content(s: &[u8], at: usize, a: u8, b: u8) -> FieldRead
+    ensures { λ r. ⌜ ReadAs (now (s .entry)) (contentReading a b (fieldAt (now (s .entry)) at)) r ⌝ }
+{
+    match field_byte(s, at) {
+        Step::Byte(c, n) => match c {
+            35 => read_number(s, n, a, b),
+            61 => read_string(s, n, a, b),
+            64 => read_cancel(s, n, a, b),
+            _ => FieldRead::Malformed,
+        },
+        Step::End => FieldRead::Flag(a, b),
+    }
+}
+
+fn read_number(s: &[u8], at: usize, a: u8, b: u8) -> FieldRead
+    ensures { λ r. ⌜ ReadAs (now (s .entry)) (contentReading a b (35 ∷ fieldAt (now (s .entry)) at)) r ⌝ }
+{
+    match read_digits(s, at) {
+        Digits::Value(v) => FieldRead::Number(a, b, v),
+        Digits::Bad => FieldRead::Malformed,
+    }
+}
+
+fn read_string(s: &[u8], at: usize, a: u8, b: u8) -> FieldRead
+    ensures { λ r. ⌜ ReadAs (now (s .entry)) (contentReading a b (61 ∷ fieldAt (now (s .entry)) at)) r ⌝ }
+{
+    let mut nothing = [0u8; 0];
+    match decode_text(s, at, &mut nothing) {
+        Decoding::Good(n) => FieldRead::String(a, b, at, n),
+        Decoding::Bad => FieldRead::Malformed,
+    }
+}
+
+fn read_cancel(s: &[u8], at: usize, a: u8, b: u8) -> FieldRead
+    ensures { λ r. ⌜ ReadAs (now (s .entry)) (contentReading a b (64 ∷ fieldAt (now (s .entry)) at)) r ⌝ }
+{
+    match field_byte(s, at) {
+        Step::Byte(_, _) => FieldRead::Malformed,
+        Step::End => FieldRead::Cancel(a, b),
+    }
+}
+
+// A field that is no link: "two name bytes as in refusal 2", and what follows them.
+fn read_capability(s: &[u8], at: usize) -> FieldRead
+    ensures { λ r. ⌜ ReadAs (now (s .entry)) (otherReading (fieldAt (now (s .entry)) at)) r ⌝ }
+{
+    let Step::Byte(a, i) = field_byte(s, at) else {
+        return FieldRead::Malformed;
+    };
+    let Step::Byte(b, j) = field_byte(s, i) else {
+        return FieldRead::Malformed;
+    };
+    if !is_id(a, b) {
+        return FieldRead::Malformed;
+    }
+    read_content(s, j, a, b)
+}
+
+// A field that is not ignored: "a link is a field that starts with the three bytes `tc=`, followed by a name as in refusal 1".
+fn read_named(s: &[u8], at: usize) -> FieldRead
+    ensures { λ r. ⌜ ReadAs (now (s .entry)) (nameReading (fieldAt (now (s .entry)) at)) r ⌝ }
+{
+    match after_start(s, at, b"tc=") {
+        Start::Before(n) => {
+            if is_name(s, n) {
+                return FieldRead::Link(n);
+            }
+            FieldRead::Malformed
+        }
+        Start::Other => read_capability(s, at),
+    }
+}
+
+// "Only spaces and tabs, or empty: ignored. First byte `.`: ignored."
+pub fn read_field(s: &[u8], at: usize) -> FieldRead
+    ensures { λ r. ⌜ Reads (now (s .entry)) at r ⌝ }
+{
+    match field_byte(s, at) {
+        Step::Byte(a, n) => match a {
+            9 | 32 => {
+                if is_blank_field(s, n) {
+                    return FieldRead::Ignored;
+                }
+                FieldRead::Malformed
+            }
+            46 => FieldRead::Ignored,
+            _ => read_named(s, at),
+        },
+        Step::End => FieldRead::Ignored,
     }
 }
