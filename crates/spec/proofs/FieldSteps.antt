@@ -12,6 +12,7 @@ use lib.ListN.{length, length-append}
 use Rattle.spec.specs.Choice.{pick, both, between}
 use Rattle.spec.specs.Lines.{Text, end, byte, lineText}
 use Rattle.spec.specs.Lists.{upto, holds, past}
+use Rattle.spec.proofs.DigitBytes.{digit-is, digit-not}
 use Rattle.spec.proofs.TextSteps.{line-end, line-on}
 use Rattle.spec.specs.Strings.{Decoded, bad, good, emit, Mode, plain, slash, caret, oneDigit, twoDigits, octal, escaped, control, decode}
 use Rattle.spec.specs.Fields.{namesOf, grow, split, fieldsOf, size, lineSize}
@@ -72,7 +73,7 @@ split-first b (c ∷ l) = go (eqb b 58) (split-first c l)
 
 -- ---- decoding
 
-outside : (low high b : ℕ) → ((low ≤ b) × (b ≤ high) → ⊥) → between low high b ≡ false
+pub outside : (low high b : ℕ) → ((low ≤ b) × (b ≤ high) → ⊥) → between low high b ≡ false
 outside low high b n = go (leb low b) refl (leb b high) refl
   where
     go : (x : Bool) → leb low b ≡ x → (y : Bool) → leb b high ≡ y → both x y ≡ false
@@ -81,17 +82,10 @@ outside low high b n = go (leb low b) refl (leb b high) refl
     go false e y f = refl
 
 is-octal : (b : ℕ) → (48 ≤ b) × (b ≤ 55) → octal b ≡ true
-is-octal b i =
-    let high : b < 48 + 8 = omega (arith, i .1) in
-    rw (le-leb 48 b (i .0), lt-ltb b (48 + 8) high)
+is-octal b i = digit-is 8 b (i .0) (omega (arith, i .1))
 
 not-octal : (b : ℕ) → ((48 ≤ b) × (b ≤ 55) → ⊥) → octal b ≡ false
-not-octal b n = go (leb 48 b) refl (ltb b (48 + 8)) refl
-  where
-    go : (x : Bool) → leb 48 b ≡ x → (y : Bool) → ltb b (48 + 8) ≡ y → both x y ≡ false
-    go true e true f = absurd (n (leb-true 48 b e, omega (arith, ltb-true b (48 + 8) f)))
-    go true e false f = refl
-    go false e y f = refl
+not-octal b n = digit-not 8 b (λ w. n (w .0, omega (arith, w .1)))
 
 -- Bytes before a decoded text: what a writer has put out so far.
 unfoldable pub after : List ℕ → Decoded → Decoded

@@ -1,6 +1,7 @@
 pub mod Computing
 pub mod Marked
 pub mod Tests
+pub mod DigitBytes
 pub mod DigitLaws
 pub mod LeadingDigits
 pub mod TextSteps

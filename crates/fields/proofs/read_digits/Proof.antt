@@ -1,0 +1,106 @@
+-- `fields::read_digits` meets its contract: the digits up to the place `i` are `k`, with the value `v`.
+-- Assumes nothing.
+use native.Mathlib.Omega.{arith}
+use Prim.Native.Nat.{_-_}
+use lib.ListN.{length}
+use Rattle.fields.proofs.Numbers.{Counted, counted-none, counted-room, counted-long, counted-not, counted-on, counted-empty, counted-large, counted-good}
+use borrow.Author.Needs.{needs}
+use Rattle.fields.proofs.read_digits.Statement.{statement}
+use Rattle.fields.proofs.read_digits.Tie as tie
+
+abbrev Inv-loop : tie.InvT-loop
+Inv-loop s at i₀ k₀ v₀ i k v = Counted s at i k v
+
+abbrev μ-loop : tie.MeasureT-loop
+μ-loop s at i₀ k₀ v₀ i k v = length s - i
+
+loop-holds : tie.Need-loop-holds Inv-loop μ-loop
+loop-holds c = counted-none _ _
+
+field-byte-requires : tie.Need-field-byte-requires Inv-loop μ-loop
+field-byte-requires c κs = search needs
+
+enum-known-b : tie.Need-enum-known-b Inv-loop μ-loop
+enum-known-b c = search needs
+
+returns : tie.Need-returns Inv-loop μ-loop
+returns c =
+    let p = rw (c .before .before .b .given .1) at (c .before .before .before .before .field-byte .ensures) in
+    counted-long _ _ _ _ _ (c .before .before .before .before .before .loop .inv) _ _ (p .0) (c .if1 .taken)
+
+mul-v : tie.Need-mul-v Inv-loop μ-loop
+mul-v c =
+    let room = counted-room _ _ _ _ _ (c .before .before .before .before .before .before .before .loop .inv) (c .before .before .if1 .left) in
+    omega arith
+
+wide-requires : tie.Need-wide-requires Inv-loop μ-loop
+wide-requires c κs = search needs
+
+add-v : tie.Need-add-v Inv-loop μ-loop
+add-v c =
+    let room = counted-room _ _ _ _ _ (c .before .before .before .before .before .before .before .before .loop .inv) (c .before .before .before .if1 .left) in
+    omega arith
+
+add-k : tie.Need-add-k Inv-loop μ-loop
+add-k c = search needs
+
+loop-less : tie.Need-loop-less Inv-loop μ-loop
+loop-less c =
+    let p = rw (c .before .before .before .before .before .b .given .1) at (c .before .before .before .before .before .before .before .field-byte .ensures) in
+    omega arith
+
+loop-again : tie.Need-loop-again Inv-loop μ-loop
+loop-again c =
+    let p = rw (c .before .before .before .before .before .b .given .1) at (c .before .before .before .before .before .before .before .field-byte .ensures) in
+    rw (c .wide .ensures) (counted-on _ _ _ _ _ (c .before .before .before .before .before .before .before .before .loop .inv) _ _ (p .0) (omega arith) (omega arith) (c .before .before .before .if1 .left))
+
+returns-2 : tie.Need-returns-2 Inv-loop μ-loop
+returns-2 c =
+    let p = rw (c .before .before .before .b .given .1) at (c .before .before .before .before .before .field-byte .ensures) in
+    counted-not _ _ _ _ _ (c .before .before .before .before .before .before .loop .inv) _ _ (p .0) (λ w. omega arith)
+
+returns-3 : tie.Need-returns-3 Inv-loop μ-loop
+returns-3 c =
+    let p = rw (c .before .before .before .before .b .given .1) at (c .before .before .before .before .before .before .field-byte .ensures) in
+    counted-not _ _ _ _ _ (c .before .before .before .before .before .before .before .loop .inv) _ _ (p .0) (λ w. omega arith)
+
+enum-told : tie.Need-enum-told Inv-loop μ-loop
+enum-told c = search needs
+
+returns-4 : tie.Need-returns-4 Inv-loop μ-loop
+returns-4 c =
+    let p = rw (c .before .enum-told .given .1) at (c .before .before .before .field-byte .ensures) in
+    counted-empty _ _ _ _ _ (c .before .before .before .before .loop .inv) p (c .if4 .taken)
+
+returns-5 : tie.Need-returns-5 Inv-loop μ-loop
+returns-5 c =
+    let p = rw (c .before .before .enum-told .given .1) at (c .before .before .before .before .field-byte .ensures) in
+    counted-large _ _ _ _ _ (c .before .before .before .before .before .loop .inv) p (c .if5 .taken)
+
+returns-6 : tie.Need-returns-6 Inv-loop μ-loop
+returns-6 c =
+    let p = rw (c .before .before .enum-told .given .1) at (c .before .before .before .before .field-byte .ensures) in
+    counted-good _ _ _ _ _ (c .before .before .before .before .before .loop .inv) p (c .before .if4 .left) (omega arith)
+
+pub read-digits-spec : {M : Type 1} → statement M
+read-digits-spec =
+    tie.close
+    (tie.spec
+    Inv-loop
+    μ-loop
+    loop-holds
+    field-byte-requires
+    enum-known-b
+    returns
+    mul-v
+    wide-requires
+    add-v
+    add-k
+    loop-less
+    loop-again
+    returns-2
+    returns-3
+    enum-told
+    returns-4
+    returns-5
+    returns-6)
