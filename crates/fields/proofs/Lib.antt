@@ -8,3 +8,4 @@ pub mod Numbers
 pub mod Contents
 pub mod LineBounds
 pub mod Judging
+pub mod WholeLine

@@ -10,7 +10,7 @@ ghost use Rattle.spec.specs.Lines.{blank, lineAt};
 ghost use Rattle.spec.specs.Refusals.{nameByte, goodName, idByte, idBytes};
 ghost use Rattle.spec.specs.Fields.{contentReading, reading, split, size as sizeOf, isIgnoredField};
 ghost use Rattle.spec.specs.Strings.{plain, slash, caret, oneDigit, twoDigits};
-ghost use Rattle.fields.specs.Answers.{fieldAt, Pieced, Reads, NamesPassed, FieldsJudged};
+ghost use Rattle.fields.specs.Answers.{fieldAt, Pieced, Reads, NamesPassed, FieldsJudged, LineJudged};
 ghost use Rattle.fields.specs.Steps.{FieldStep, ColonFound, Copied, TextBegins, Decodes};
 ghost use Rattle.fields.specs.Judgement.{Follows, IgnoredSize, linked};
 ghost use Rattle.fields.specs.Readings.{Starts, Numbers, ReadAs, otherReading, nameReading};
@@ -589,5 +589,20 @@ pub fn judge_fields(s: &[u8]) -> Judged
             FieldRead::Link(name) => return judge_after_link(s, next, name, size),
             _ => at = next,
         }
+    }
+}
+
+// The verdict on the line at a place: "a line without a colon" is malformed; "a line's size is its names plus 1, plus each field's length
+// plus 1".
+pub fn judge_line(db: &[u8], at: usize) -> Judged
+    ensures { λ r. ⌜ LineJudged (now (db .entry)) at r ⌝ }
+{
+    let AfterNames::At(fields, n) = after_names(db, at) else {
+        return Judged::Malformed;
+    };
+    match judge_fields(&db[fields..]) {
+        Judged::Malformed => Judged::Malformed,
+        Judged::Ends(size) => Judged::Ends(n + 1 + size),
+        Judged::Links(size, name) => Judged::Links(n + 1 + size, fields + name),
     }
 }
