@@ -6,3 +6,6 @@ pub mod Names
 pub mod Starting
 pub mod Numbers
 pub mod Contents
+pub mod LineBounds
+pub mod Judging
+pub mod WholeLine
