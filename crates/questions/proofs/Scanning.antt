@@ -87,6 +87,9 @@ no-past (b ∷ l) e = go (eqb b 58) e (no-past l)
     go true h ih = clash h
     go false h ih = ih h
 
-pub scan-no-colon : (id : List ℕ) (k : ℕ) (l : List ℕ) → holds 58 l ≡ false → scan id k (fieldsOf l) ≡ goesOn
+pub no-fields : (l : List ℕ) → holds 58 l ≡ false → fieldsOf l ≡ []
 unfolding fieldsOf
-scan-no-colon id k l e = rw (no-past l e, split-nil) (scan-none id k)
+no-fields l e = rw (no-past l e, split-nil)
+
+pub scan-no-colon : (id : List ℕ) (k : ℕ) (l : List ℕ) → holds 58 l ≡ false → scan id k (fieldsOf l) ≡ goesOn
+scan-no-colon id k l e = rw (no-fields l e) (scan-none id k)

@@ -32,9 +32,12 @@ unfolding upto
 upto-short c [] = omega arith
 upto-short c (b ∷ l) = let ih = upto-short c l in pick-all (λ (k : List ℕ). length k ≤ length (b ∷ l)) (eqb b c) (omega arith) (omega arith)
 
--- A decoded text is no longer than the database.
+-- A field is no longer than the database, nor is a decoded text.
+pub field-bound : (db : List ℕ) (at : ℕ) → length (fieldAt db at) ≤ length db
+field-bound db at = omega (arith, upto-short 58 (lineAt db at), line-bound db at)
+
 pub text-bound : (db : List ℕ) (text : ℕ) (l : List ℕ) → decode plain (fieldAt db text) ≡ good l → length l ≤ length db
-text-bound db text l e = omega (arith, decode-short plain (fieldAt db text) l e, upto-short 58 (lineAt db text), line-bound db text)
+text-bound db text l e = omega (arith, decode-short plain (fieldAt db text) l e, field-bound db text)
 
 -- ---- a field that has no bytes
 

@@ -1,11 +1,12 @@
 -- Bytes stored one by one from a place of a buffer on (`sets` of lib.Seq: a store past the end is no store).
 -- Assumes nothing.
-use Prim.Native.Nat.{ℕ, zero, suc, _+_, _≤_}
-use mathlib.Core.Path.{_≡_, refl, _∙_, ap}
-use mathlib.Core.List.{List, [], _∷_, _++_, append-nil}
+use Prim.Native.Nat.{ℕ, suc, _+_, _≤_, _<_}
+use mathlib.Core.Path.{_≡_, refl, _∙_}
+use mathlib.Core.List.{List, [], _∷_, _++_}
+use native.Mathlib.Numerals.{add-one}
 use native.Mathlib.Omega.{arith}
-use lib.ListN.{length, take, drop, set}
-use lib.Seq.{sets, sets-eq, take-append-seam}
+use lib.ListN.{length, take, drop, getD, set}
+use lib.Seq.{sets, sets-eq, take-append-seam, take-suc, length-take-le}
 
 module _ (out text : List ℕ) (fits : length text ≤ length out) where
   zero-add : (n : ℕ) → 0 + n ≡ n
@@ -28,3 +29,9 @@ stored-append out at [] y = let e : at + 0 ≡ at = omega arith in rw e
 stored-append out at (b ∷ x) y =
     let e : at + suc (length x) ≡ suc at + length x = omega arith in
     stored-append (set out at b) (suc at) x y ∙ rw e
+
+-- One byte more of a text.
+pub stored-next : (out : List ℕ) (at : ℕ) (text : List ℕ) (i : ℕ) → i < length text → sets out at (take (i + 1) text) ≡ set (sets out at (take i text)) (at + i) (getD text i 0)
+stored-next out at text i h =
+    let whole : i ≤ length text = omega arith in
+    rw (add-one i, take-suc text i 0 h, stored-append out at (take i text) (getD text i 0 ∷ []), length-take-le i text whole)

@@ -1,0 +1,162 @@
+-- A pass over fields: none, one, one part after another; and how far it can get.
+-- Assumes nothing.
+use Prim.Native.Nat.{ℕ, _+_, _*_, _≤_}
+use mathlib.Core.Path.{_≡_, refl, _∙_, ap, sym}
+use mathlib.Core.Bool.{true, false}
+use mathlib.Core.List.{List, [], _∷_, _++_, append-nil, append-assoc}
+use native.Mathlib.Nat.{add-zero}
+use native.Mathlib.Omega.{arith}
+use lib.ListN.{length, set, replicate, length-append}
+use lib.Seq.{sets}
+use Rattle.spec.specs.Lines.{lineAt}
+use Rattle.spec.specs.Fields.{Reading, malformed, ignored, link, capability, reading, split, withColons, size}
+use Rattle.spec.specs.Chain.{Field, placed, texts}
+use Rattle.spec.specs.Lookup.{winningAfter, winning}
+use Rattle.spec.specs.Listing.{fourBytes, recordOf, records}
+use Rattle.spec.proofs.Tests.{pick-all}
+use Rattle.spec.proofs.Stores.{stored-append}
+use Rattle.spec.proofs.AcceptedChain.{texts-append, texts-placed, size-append}
+use Rattle.spec.proofs.Winning.{readBefore, winning-after}
+use Rattle.listing.specs.Answers.{Marks, SomeMarks, wins, Took, fieldBytes, written, Passes, WroteWinning}
+use Rattle.listing.proofs.Marking.{no-marks}
+use Rattle.listing.specs.declared.Won.{Won}
+use Rattle.listing.specs.declared.Won.the-variants.{No, Yes}
+use Rattle.listing.specs.declared.Form.{Form}
+use Rattle.listing.specs.declared.Form.the-variants.{Records, Texts}
+
+-- ---- what is written
+
+pub written-records : (fs : List Field) → written Records fs ≡ records fs
+unfolding written records
+written-records [] = refl
+written-records (f ∷ fs) = rw (written-records fs)
+
+pub written-texts : (fs : List Field) → written Texts fs ≡ withColons (texts fs)
+unfolding written withColons texts
+written-texts [] = refl
+written-texts (f ∷ fs) = append-assoc (f .text) (58 ∷ []) (written Texts fs) ∙ rw (written-texts fs)
+
+written-append : (form : Form) (fs gs : List Field) → written form (fs ++ gs) ≡ written form fs ++ written form gs
+unfolding written
+written-append form [] gs = refl
+written-append form (f ∷ fs) gs = rw (written-append form fs gs) (sym (append-assoc (fieldBytes form f) (written form fs) (written form gs)))
+
+record-short : (place : ℕ) (r : Reading) → length (recordOf place r) ≤ 8
+unfolding recordOf
+record-short place malformed = omega arith
+record-short place ignored = omega arith
+record-short place (link n) = omega arith
+record-short place (capability a b c) = omega arith
+
+field-short : (form : Form) (f : Field) → length (fieldBytes form f) ≤ 8 * (length (f .text) + 1)
+field-short Records f = omega (arith, record-short (f .place) (reading (f .text)))
+field-short Texts f = omega (arith, length-append (f .text) (58 ∷ []))
+
+written-short : (form : Form) (qs : List Reading) (fs : List Field) → length (written form (winningAfter qs fs)) ≤ 8 * size (texts fs)
+unfolding written winningAfter texts size
+written-short form qs [] = omega arith
+written-short form qs (f ∷ fs) =
+    let rest = winningAfter (reading (f .text) ∷ qs) fs in
+    let ih = written-short form (reading (f .text) ∷ qs) fs in
+    pick-all (λ (gs : List Field). length (written form gs) ≤ 8 * (length (f .text) + 1 + size (texts fs))) (wins qs (reading (f .text)))
+    (omega (arith, length-append (fieldBytes form f) (written form rest), field-short form f)) (omega arith)
+
+-- ---- passes
+
+read-append : (qs : List Reading) (fs gs : List Field) → readBefore qs (fs ++ gs) ≡ readBefore (readBefore qs fs) gs
+unfolding readBefore
+read-append qs [] gs = refl
+read-append qs (f ∷ fs) gs = read-append (reading (f .text) ∷ qs) fs gs
+
+module _ (form : Form) where
+  pub pass-none : (t out : List ℕ) (to : ℕ) → Passes form [] t out to t out to
+  unfolding readBefore winningAfter written
+  pass-none t out to qs m = record { marks = m; ends = sym (add-zero to); stored = refl }
+
+  module _ (f : Field) (t t′ out : List ℕ) (to : ℕ) where
+    pub pass-lost : ((qs : List Reading) → Marks qs t → Marks (reading (f .text) ∷ qs) t′ × (wins qs (reading (f .text)) ≡ false)) → Passes form (f ∷ []) t out to t′ out to
+    unfolding readBefore winningAfter written
+    pass-lost h qs m =
+        let w = h qs m in
+        record { marks = w .0; ends = rw (w .1) (sym (add-zero to)); stored = rw (w .1) }
+
+    pub pass-won : (out′ : List ℕ) (end : ℕ)
+        → ((qs : List Reading) → Marks qs t → Marks (reading (f .text) ∷ qs) t′ × (wins qs (reading (f .text)) ≡ true) × (end ≡ to + length (fieldBytes form f)) × (out′ ≡ sets out to (fieldBytes form f)))
+        → Passes form (f ∷ []) t out to t′ out′ end
+    unfolding readBefore winningAfter written
+    pass-won out′ end h qs m =
+        let w = h qs m in
+        record { marks = w .0; ends = rw (w .1, append-nil (fieldBytes form f)) (w .2); stored = rw (w .1, append-nil (fieldBytes form f)) (w .3) }
+
+  module _ (fs gs : List Field) (t out : List ℕ) (to : ℕ) (t₁ out₁ : List ℕ) (mid : ℕ) (t₂ out₂ : List ℕ) (end : ℕ) where
+    pub pass-then : Passes form fs t out to t₁ out₁ mid → Passes form gs t₁ out₁ mid t₂ out₂ end → Passes form (fs ++ gs) t out to t₂ out₂ end
+    pass-then p q qs m =
+        let a = p qs m in
+        let b = q (readBefore qs fs) (a .marks) in
+        let x = written form (winningAfter qs fs) in
+        let y = written form (winningAfter (readBefore qs fs) gs) in
+        let w : written form (winningAfter qs (fs ++ gs)) ≡ x ++ y = ap (written form) (winning-after qs fs gs) ∙ written-append form (winningAfter qs fs) (winningAfter (readBefore qs fs) gs) in
+        record {
+          marks = rw (read-append qs fs gs) (b .marks);
+          ends = rw w (omega (arith, a .ends, b .ends, length-append x y));
+          stored = rw (w, stored-append out to x y) (b .stored ∙ rw (a .stored, a .ends));
+        }
+
+  -- how far a part of a pass gets
+  pub pass-bound : (all done rest : List Field) (t out : List ℕ) (to : ℕ) (t′ out′ : List ℕ) (end : ℕ) (qs : List Reading) → Marks qs t → Passes form done t out to t′ out′ end
+      → all ≡ done ++ rest → size (texts all) ≤ 1048577 → end ≤ to + 8388616
+  pass-bound all done rest t out to t′ out′ end qs m p e s =
+      let split-size : size (texts all) ≡ size (texts done) + size (texts rest) = ap (λ (fs : List Field). size (texts fs)) e ∙ ap size (texts-append done rest) ∙ size-append (texts done) (texts rest) in
+      omega (arith, p qs m .ends, written-short form qs done, split-size)
+
+-- ---- one field, in each form
+
+module _ (place : ℕ) (text t t′ out : List ℕ) (to : ℕ) where
+  abbrev here : Field
+  here = record { place = place; text = text }
+
+  pub take-lost : (form : Form) (won : Won) → won ≡ No → Took (reading text) t t′ won → Passes form (here ∷ []) t out to t′ out to
+  take-lost form won e k = pass-lost form here t t′ out to (rw e at k)
+
+  pub take-record : (form : Form) (won : Won) (a b k v : ℕ) (out′ : List ℕ) → form ≡ Records → won ≡ Yes a b k v → Took (reading text) t t′ won
+      → out′ ≡ sets out to (a ∷ b ∷ k ∷ place ∷ fourBytes v) → Passes form (here ∷ []) t out to t′ out′ (to + 8)
+  take-record form won a b k v out′ g e h s =
+      pass-won form here t t′ out to out′ (to + 8) λ qs m.
+      let w = (rw e at h) qs m in
+      (w .0, w .1 .0, rw (g, w .1 .1 place), rw (g, w .1 .1 place) s)
+
+  pub take-text : (form : Form) (won : Won) (a b k v n : ℕ) (out₁ out′ : List ℕ) → form ≡ Texts → won ≡ Yes a b k v → Took (reading text) t t′ won
+      → n ≡ length text → out₁ ≡ sets out to text → out′ ≡ set out₁ (to + n) 58 → Passes form (here ∷ []) t out to t′ out′ (to + n + 1)
+  take-text form won a b k v n out₁ out′ g e h l s s′ =
+      pass-won form here t t′ out to out′ (to + n + 1) λ qs m.
+      let w = (rw e at h) qs m in
+      (w .0, w .1 .0, rw g (omega (arith, length-append text (58 ∷ []))), rw (g, stored-append out to text (58 ∷ []), ← s, ← l) s′)
+
+-- ---- the fields of a line
+
+module _ (place : ℕ) where
+  pub line-done : (s : List ℕ) (at : ℕ) (all done : List Field) → all ≡ done ++ placed place (split (lineAt s at)) → split (lineAt s at) ≡ [] → all ≡ done
+  unfolding placed
+  line-done s at all done e h = e ∙ rw h (append-nil done)
+
+  pub line-last : (s : List ℕ) (at : ℕ) (all done : List Field) (t : List ℕ) → all ≡ done ++ placed place (split (lineAt s at)) → split (lineAt s at) ≡ t ∷ [] → all ≡ done ++ record { place = place; text = t } ∷ []
+  unfolding placed
+  line-last s at all done t e h = e ∙ rw h
+
+  pub line-more : (s : List ℕ) (at next : ℕ) (all done : List Field) (t : List ℕ) → all ≡ done ++ placed place (split (lineAt s at)) → split (lineAt s at) ≡ t ∷ split (lineAt s next)
+      → all ≡ (done ++ record { place = place; text = t } ∷ []) ++ placed place (split (lineAt s next))
+  unfolding placed
+  line-more s at next all done t e h = e ∙ rw h (sym (append-assoc done (record { place = place; text = t } ∷ []) (placed place (split (lineAt s next)))))
+
+  pub line-size-bound : (s : List ℕ) (at : ℕ) → size (split (lineAt s at)) ≤ 1048577 → size (texts (placed place (split (lineAt s at)))) ≤ 1048577
+  line-size-bound s at h = rw (texts-placed place (split (lineAt s at))) h
+
+-- ---- a pass over all fields, from an empty table on
+
+pub pass-winning : (form : Form) (fs : List Field) (out : List ℕ) (to : ℕ) (t′ out′ : List ℕ) (end : ℕ) → Passes form fs (replicate 35344 0) out to t′ out′ end → WroteWinning form fs out to out′ end
+unfolding winning
+pass-winning form fs out to t′ out′ end p = let w = p [] no-marks in (w .ends, w .stored)
+
+-- the table is marked by what was passed
+pub pass-marks : (form : Form) (fs : List Field) (out : List ℕ) (to : ℕ) (t′ out′ : List ℕ) (end : ℕ) → Passes form fs (replicate 35344 0) out to t′ out′ end → SomeMarks t′
+pass-marks form fs out to t′ out′ end p = (readBefore [] fs, p [] no-marks .marks)

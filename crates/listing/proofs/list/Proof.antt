@@ -1,0 +1,47 @@
+-- `listing::list` meets its contract, by how the walk ended. Assumes nothing.
+use Rattle.spec.specs.Listing.{listOutcome, listFor}
+use Rattle.listing.proofs.Delivering.{list-none}
+use borrow.Author.Needs.{needs}
+use Rattle.listing.proofs.list.Statement.{statement}
+use Rattle.listing.proofs.list.Tie as tie
+
+resolve-requires : tie.Need-resolve-requires
+resolve-requires c κs = search needs
+
+enum-known-ended : tie.Need-enum-known-ended
+enum-known-ended c = search needs
+
+enum-told : tie.Need-enum-told
+enum-told c = search needs
+
+write-list-requires : tie.Need-write-list-requires
+write-list-requires c κs =
+    let w = rw (c .before .enum-told .given .1) at (c .before .before .before .resolve .ensures) in
+    (w .3, w .2)
+
+returns : tie.Need-returns
+unfolding listOutcome listFor
+returns c =
+    let w = rw (c .before .ended .given .1) at (c .before .before .before .resolve .ensures) in
+    list-none _ (c .before .before .before .before .before .before .before .args .out .now) _ w
+
+same-length : tie.Need-same-length
+same-length c = search needs
+
+returns-2 : tie.Need-returns-2
+unfolding listOutcome listFor
+returns-2 c =
+    let w = rw (c .before .before .before .before .enum-told .given .1) at (c .before .before .before .before .before .before .resolve .ensures) in
+    rw (w .0) (c .before .before .write-list .ensures)
+
+pub list-spec : {M : Type 1} → statement M
+list-spec =
+    tie.close
+    (tie.spec
+    resolve-requires
+    enum-known-ended
+    enum-told
+    write-list-requires
+    returns
+    same-length
+    returns-2)
