@@ -1,7 +1,7 @@
 -- A line's fields judged one by one: what was passed, its size, and what is left.
 -- Assumes nothing.
-use Prim.Native.Nat.{ℕ, zero, suc, _+_, _≤_, _<_}
-use mathlib.Core.Path.{_≡_, refl, _∙_, ap, sym}
+use Prim.Native.Nat.{ℕ, _+_, _≤_}
+use mathlib.Core.Path.{_≡_, refl, _∙_, ap}
 use mathlib.Core.Bool.{Bool, true, false}
 use mathlib.Core.List.{List, [], _∷_}
 use native.Mathlib.Omega.{arith}
@@ -10,8 +10,8 @@ use types.Run.{OneOf, miss}
 use lib.ListN.{length}
 use Rattle.spec.specs.Choice.{pick}
 use Rattle.spec.specs.Lines.{lineAt}
-use Rattle.spec.specs.Fields.{malformed, link, reading, split, size, isIgnoredField, allIgnored, judge, malformedLine, noLink}
-use Rattle.spec.proofs.Judging.{judge-nil, judge-malformed, judge-ignored, judge-entry, judge-link, judge-after, ignored-on, ignored-not, ignored-nil}
+use Rattle.spec.specs.Fields.{malformed, link, reading, split, size, isIgnoredField, allIgnored, judge}
+use Rattle.spec.proofs.Judging.{judge-nil, judge-malformed, judge-ignored, judge-entry, judge-link, judge-after, ignored-not, ignored-nil}
 use Rattle.fields.specs.Answers.{fieldAt, Reads, FieldsJudged}
 use Rattle.fields.specs.Judgement.{linked}
 use Rattle.fields.specs.declared.FieldRead.{FieldRead}

@@ -1,15 +1,15 @@
 -- Names and ids by their bytes, as a reader of a field meets them.
 -- Assumes nothing.
 use Prim.Native.Nat.{ℕ, zero, suc, _+_, _≤_, _<_}
-use mathlib.Core.Path.{_≡_, refl, _∙_, ap, sym}
-use mathlib.Core.Bool.{Bool, true, false, not}
+use mathlib.Core.Path.{_≡_, refl, _∙_, ap}
+use mathlib.Core.Bool.{true, false, not}
 use mathlib.Core.List.{List, [], _∷_}
 use mathlib.Core.Logic.{_⊎_, inl, inr}
 use native.Mathlib.Omega.{arith}
 use borrow.Author.Tests.{eq-eqb, ne-eqb, le-leb, lt-leb}
 use lib.Dec.{eqb, leb, ltb}
 use lib.ListN.{length}
-use Rattle.spec.specs.Choice.{both, either, between}
+use Rattle.spec.specs.Choice.{between}
 use Rattle.spec.specs.Lines.{blank}
 use Rattle.spec.specs.Refusals.{nameByte, nameBytes, goodName, idByte, isTc, idBytes}
 use Rattle.spec.proofs.FieldSteps.{outside}

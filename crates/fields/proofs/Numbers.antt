@@ -1,8 +1,8 @@
 -- A number's digits read one by one, in the base that the definition gives them.
 -- Assumes nothing.
-use Prim.Native.Nat.{ℕ, zero, suc, _+_, _-_, _*_, _^_, _≤_, _<_}
-use mathlib.Core.Path.{_≡_, refl, _∙_, ap, sym}
-use mathlib.Core.Bool.{Bool, true, false}
+use Prim.Native.Nat.{ℕ, _+_, _-_, _*_, _^_, _≤_, _<_}
+use mathlib.Core.Path.{_≡_, refl, _∙_, ap}
+use mathlib.Core.Bool.{true, false}
 use mathlib.Core.List.{List, [], _∷_}
 use native.Mathlib.Nat.{pow-suc, pow-le-pow-right}
 use native.Mathlib.Numerals.{add-one}
@@ -10,7 +10,7 @@ use native.Mathlib.Omega.{arith}
 use borrow.Author.Tests.{le-leb, lt-leb}
 use lib.Dec.{leb}
 use lib.ListN.{length}
-use Rattle.spec.specs.Choice.{both, between}
+use Rattle.spec.specs.Choice.{between}
 use Rattle.spec.specs.Digits.{areDigits, valueFrom}
 use Rattle.spec.specs.Fields.{numberBase, numberValue, goodNumber}
 use Rattle.spec.proofs.DigitBytes.{digit-is, digit-not}

@@ -1,11 +1,11 @@
 -- A string's text decoded step by step: a step's answer passed on, and the bytes stored so far.
 -- Assumes nothing.
 use Prim.Native.Nat.{ℕ, suc, _+_, _≤_, _<_}
-use mathlib.Core.Path.{_≡_, refl, _∙_, ap, sym}
+use mathlib.Core.Path.{_≡_, refl, _∙_, ap}
 use mathlib.Core.List.{List, [], _∷_, _++_, append-nil}
 use native.Mathlib.Omega.{arith}
 use native.Mathlib.Nat.{add-zero}
-use lib.ListN.{length, set, length-append, length-set}
+use lib.ListN.{length, set, length-append}
 use lib.Seq.{sets, length-sets}
 use Rattle.spec.specs.Strings.{Decoded, bad, good, emit, Mode, plain, decode}
 use Rattle.spec.proofs.FieldSteps.{after, after-emit}
