@@ -1,15 +1,15 @@
 -- Demand 3 holds of every accepted chain.
 -- Assumes nothing.
-use Prim.Native.Nat.{ℕ, zero, suc, _+_, _*_, _/_, _%_, _≤_, _<_}
+use Prim.Native.Nat.{ℕ, _+_, _*_, _/_, _%_, _≤_, _<_}
 use mathlib.Core.Path.{_≡_, refl, _∙_, ap, sym}
 use mathlib.Core.Logic.{_↔_, _⊎_, inl, inr}
-use mathlib.Core.Bool.{Bool, true, false, not}
+use mathlib.Core.Bool.{Bool, true, false}
 use mathlib.Core.List.{List, [], _∷_, _++_, map, append-assoc}
 use native.Mathlib.Nat.{div-div-eq-div-mul, div-add-mod, mod-eq-of-lt}
 use native.Mathlib.Omega.{arith}
-use borrow.Author.Tests.{eqb-true, eqb-false, eq-eqb}
+use borrow.Author.Tests.{eqb-true, eq-eqb}
 use lib.Dec.{eqb, leb, lit<}
-use lib.ListN.{length, take, drop, set}
+use lib.ListN.{length, drop}
 use lib.Seq.{take-append-seam, take-at, drop-at}
 use Rattle.spec.specs.Choice.{pick, both, either}
 use Rattle.spec.specs.Lists.{same}
@@ -21,9 +21,9 @@ use Rattle.spec.specs.declared.Kind.the-variants.{Flag, Number, String}
 use Rattle.spec.specs.Fields.{Content, cancel, flag, number, string, Reading, malformed, ignored, link, capability, reading, kindNumber, contentKind, contentValue, contentBytes}
 use Rattle.spec.proofs.Readings.{reading-entered}
 use Rattle.spec.specs.Chain.{Field, placed, texts, Terminal, refused, terminal}
-use Rattle.spec.proofs.AcceptedChain.{Sound, texts-placed}
+use Rattle.spec.proofs.AcceptedChain.{texts-placed}
 use Rattle.spec.specs.Questions.{terminalOf, terminalFor, hitAnswer, answerFor, presented, flagAnswer, numberAnswer, decodedOutcome, stringFor, stringOutcome}
-use Rattle.spec.specs.Lookup.{Hit, none, hit, matches, lookup, canWin, hides, winning, valueOf, bytesOf}
+use Rattle.spec.specs.Lookup.{Hit, none, hit, matches, lookup, canWin, winning, valueOf, bytesOf}
 use Rattle.spec.specs.Answers.{Outcome, put}
 use Rattle.spec.proofs.Removal.{Clear, AllWin, matches-hides, win-no-cancel, lookup-hit, lookup-on}
 use Rattle.spec.proofs.Winning.{winning-wins, winning-sound, lookup-winning}
@@ -33,7 +33,7 @@ use Rattle.spec.specs.declared.Answer.{Answer}
 use Rattle.spec.specs.declared.Answer.the-variants.{Present, Absent, Refused as NotAnswered}
 use Rattle.spec.specs.declared.Written.{Written}
 use Rattle.spec.specs.declared.Written.the-variants.{Count, Refused}
-use Rattle.demands.specs.Demand3.{Accepted, HasRoom, QuestionHasRoom, question, count, cut, listed, oneLine, bigEndian, tells, occurrences, atPlaceZero, Demand3}
+use Rattle.demands.specs.Demand3.{Accepted, HasRoom, QuestionHasRoom, question, cut, listed, oneLine, bigEndian, tells, occurrences, atPlaceZero, Demand3}
 use Rattle.spec.specs.Listing.{fourBytes, recordOf, records, listFor, listOutcome, flatText, flatFor, flatOutcome}
 use Rattle.spec.proofs.FlatAlone.{sound, asked-is, flag-same, number-same, string-same, list-same, flat-same}
 use Rattle.spec.proofs.Records.{AllSmall, record-length, records-length, values-small, placed-length}

@@ -9,17 +9,16 @@ use lib.ListN.{length, take, drop, getD, set}
 use Rattle.spec.specs.Choice.{pick, both}
 use Rattle.spec.specs.Lists.{same}
 use Rattle.spec.specs.Fields.{kindNumber}
-use Rattle.spec.specs.Chain.{Field, Terminal, terminal}
+use Rattle.spec.specs.Chain.{Field, terminal}
 use Rattle.spec.specs.Lookup.{winning}
 use Rattle.spec.specs.Answers.{Outcome}
 use Rattle.spec.specs.Questions.{terminalOf, flagAnswer, numberAnswer, stringOutcome}
 use Rattle.spec.specs.Listing.{records, listOutcome, flatOutcome}
 use Rattle.spec.specs.declared.Kind.{Kind}
 use Rattle.spec.specs.declared.Kind.the-variants.{Flag, Number, String}
-use Rattle.spec.specs.declared.Refusal.{Refusal}
 use Rattle.spec.specs.declared.Refusal.the-variants.{NoRoom}
 use Rattle.spec.specs.declared.Answer.{Answer}
-use Rattle.spec.specs.declared.Answer.the-variants.{Present, Absent, Refused as NotAnswered}
+use Rattle.spec.specs.declared.Answer.the-variants.{Present, Refused as NotAnswered}
 use Rattle.spec.specs.declared.Written.{Written}
 use Rattle.spec.specs.declared.Written.the-variants.{Count, Refused}
 

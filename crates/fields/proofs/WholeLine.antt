@@ -19,7 +19,7 @@ use Rattle.fields.specs.declared.Judged.the-variants.{Malformed, Ends, L
 use Rattle.fields.proofs.LineBounds.{line-bound, open-bound}
 
 -- the part of the database from a place on, as `&db[a..]` has it
-abbrev part : List ℕ → ℕ → List ℕ
+abbrev pub part : List ℕ → ℕ → List ℕ
 part db a = take (length db - a) (drop a db)
 
 module _ (db : List ℕ) (at a n : ℕ) (p : NamesPassed db at (At a n)) where
@@ -28,10 +28,10 @@ module _ (db : List ℕ) (at a n : ℕ) (p : NamesPassed db at (At a n)) where
       let l : length (drop a db) ≤ length db - a = rw length-drop (omega arith) in
       take-all (length db - a) (drop a db) l
 
-  part-at : (i : ℕ) → lineAt (part db a) i ≡ lineAt db (a + i)
+  pub part-at : (i : ℕ) → lineAt (part db a) i ≡ lineAt db (a + i)
   part-at i = rw part-is (part-line db a i)
 
-  part-fields : split (lineAt (part db a) 0) ≡ fieldsOf (lineAt db at)
+  pub part-fields : split (lineAt (part db a) 0) ≡ fieldsOf (lineAt db at)
   unfolding fieldsOf
   part-fields = ap split (part-at 0 ∙ ap (lineAt db) (add-zero a) ∙ sym (p .1))
 

@@ -328,7 +328,7 @@ fn after_start(s: &[u8], at: usize, start: &[u8]) -> AfterStart
 }
 
 // A byte of a name, as in refusal 1.
-fn is_name_byte(b: u8) -> bool
+pub fn is_name_byte(b: u8) -> bool
     ensures { λ r. ⌜ r ≡ nameByte b ⌝ }
 {
     match b {
@@ -373,7 +373,7 @@ fn is_id_byte(b: u8) -> bool
 }
 
 // Whether two bytes are an id, as in refusal 2.
-fn is_id(a: u8, b: u8) -> bool
+pub fn is_id(a: u8, b: u8) -> bool
     ensures { λ r. ⌜ r ≡ idBytes a b ⌝ }
 {
     if !is_id_byte(a) {

@@ -7,7 +7,7 @@ use Rattle.lines.specs.declared.Step.{Step}
 use Rattle.lines.specs.declared.Step.the-variants.{Byte, End}
 use Rattle.lines.specs.declared.Next.{Next}
 use Rattle.lines.specs.declared.Next.the-variants.{To, Last}
-use Rattle.spec.specs.Lines.{Text, end, byte, textAt, lineText, laterLines, linesFrom, firstName, laterNames}
+use Rattle.spec.specs.Lines.{end, byte, textAt, lineText, laterLines, linesFrom, firstName, laterNames}
 
 -- `peek`: the text at a place is the byte that it answers, and then the text at the place that it answers.
 abbrev pub Peeked : List ℕ → ℕ → Step → Type 0

@@ -3,7 +3,7 @@
 use spec::Found;
 ghost use mathlib.Core.Path.{_≡_};
 ghost use Rattle.spec.specs.Lists.{same};
-ghost use Rattle.spec.specs.Lines.{textAt, lineText, blank, isIgnored, firstName, findLine};
+ghost use Rattle.spec.specs.Lines.{textAt, lineText, blank, isIgnored, firstName, findLine, extent};
 ghost use Rattle.lines.specs.Answers.{Peeked, NextLine, NextName};
 
 // What the joined text at a place starts with: a byte, with the place after it, or the end of the database.
@@ -153,6 +153,24 @@ pub fn find_line(db: &[u8], name: &[u8]) -> Found
         match next_line(db, at) {
             Next::To(n) => at = n,
             Next::Last => break Found::Nothing,
+        }
+    }
+}
+
+// Where the line at a place ends, its closing newline not counted.
+pub fn line_end(db: &[u8], at: usize) -> usize
+    ensures { λ r. ⌜ r ≡ extent (now (db .entry)) at ⌝ }
+{
+    let mut i = at;
+    loop {
+        match peek(db, i) {
+            Step::Byte(b, n) => {
+                if b == 10 {
+                    return n - 1;
+                }
+                i = n;
+            }
+            Step::End => return db.len(),
         }
     }
 }

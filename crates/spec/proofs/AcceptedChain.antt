@@ -6,10 +6,10 @@ use mathlib.Core.Bool.{Bool, true, false}
 use mathlib.Core.List.{List, [], _∷_, _++_, append-nil, append-assoc}
 use native.Mathlib.Omega.{arith}
 use borrow.Author.Tests.{ltb-false, le-ltb}
-use lib.Dec.{eqb, ltb}
-use lib.ListN.{length, length-append}
+use lib.Dec.{ltb}
+use lib.ListN.{length}
 use Rattle.spec.specs.Choice.{pick}
-use Rattle.spec.specs.Lines.{findLine, join, textAt, lineText, lineAt, isIgnored, hasName}
+use Rattle.spec.specs.Lines.{findLine, textAt, lineAt}
 use Rattle.spec.specs.declared.Found.{Found}
 use Rattle.spec.specs.declared.Found.the-variants.{At, Nothing}
 use Rattle.spec.proofs.WholeLines.{Free, AllFree, Holds, line-free, found-holds, find-at-start}
@@ -17,8 +17,8 @@ use Rattle.spec.specs.Lists.{holds}
 use Rattle.spec.specs.Fields.{namesOf, fieldsOf, withColons, size, lineSize, Verdict, malformedLine, noLink, linkTo, judge, verdict}
 use Rattle.spec.proofs.FieldTexts.{names-free, names-stop, fields-free, fields-stop, kept-ignored, kept-name, holds-colon, closed-names, closed-fields, closed-size, closed-line}
 use Rattle.spec.specs.declared.Refusal.{Refusal}
-use Rattle.spec.specs.declared.Refusal.the-variants.{Malformed, Cycle, ChainTooLarge, LostLink, UnknownName}
-use Rattle.spec.specs.Chain.{Chain, broken, chain, visited, linkTarget, entered, follow, walk, Field, placed, texts, joinedFields, Terminal, refused, terminal, described, resolve}
+use Rattle.spec.specs.declared.Refusal.the-variants.{Cycle, ChainTooLarge, LostLink, UnknownName}
+use Rattle.spec.specs.Chain.{Chain, broken, chain, visited, linkTarget, entered, follow, walk, Field, placed, texts, joinedFields, terminal, described, resolve}
 
 -- ---- lists of texts
 

@@ -1,14 +1,14 @@
 -- The raw extent of a line lies in the database, and so does the place of a line that is found.
 -- Assumes nothing.
-use Prim.Native.Nat.{ℕ, zero, suc, _+_, _-_, _≤_}
-use mathlib.Core.Path.{_≡_, refl, _∙_, ap, sym}
+use Prim.Native.Nat.{ℕ, _+_, _-_, _≤_}
+use mathlib.Core.Path.{_≡_, refl}
 use mathlib.Core.Bool.{Bool, true, false, not}
 use mathlib.Core.List.{List, [], _∷_}
 use native.Mathlib.Omega.{arith}
+use borrow.Author.Tests.{eq-eqb, ne-eqb}
 use lib.Dec.{eqb}
 use lib.ListN.{length, drop, length-drop}
-use Rattle.spec.specs.declared.Found.{Found}
-use Rattle.spec.specs.declared.Found.the-variants.{At, Nothing}
+use Rattle.spec.specs.declared.Found.the-variants.{At}
 use Rattle.spec.specs.Choice.{pick, both}
 use Rattle.spec.specs.Lines.{Text, end, byte, join, textAt, Line, lineText, laterLines, isIgnored, hasName, find, findLine, lineEnd, extent}
 
@@ -71,3 +71,18 @@ pub found-inside : (db n : List ℕ) (p : ℕ) → findLine db n ≡ At p → p 
 unfolding findLine textAt
 found-inside db n p e =
     find-one n (length db) p (record { start = 0; text = lineText (join 0 db) }) (laterLines (join 0 db)) (omega arith) (find-inside n (length db) p 0 db (omega arith)) e
+
+-- ---- the end of a line, byte by byte
+
+module _ (db : List ℕ) (at : ℕ) where
+  pub extent-end : textAt db at ≡ end → extent db at ≡ length db
+  unfolding extent lineEnd
+  extent-end e = rw e
+
+  pub extent-newline : (b n : ℕ) (t : Text) → textAt db at ≡ byte b n t → b ≡ 10 → extent db at ≡ n - 1
+  unfolding extent lineEnd
+  extent-newline b n t e h = rw (e, eq-eqb b 10 h)
+
+  pub extent-on : (b n : ℕ) → textAt db at ≡ byte b n (textAt db n) → (b ≡ 10 → ⊥) → extent db at ≡ extent db n
+  unfolding extent lineEnd
+  extent-on b n e h = rw (e, ne-eqb b 10 h)

@@ -1,31 +1,28 @@
 -- Flat as a database: the same answers, the same records at place 0, the same Flat.
 -- Assumes nothing.
-use Prim.Native.Nat.{ℕ, zero, suc, _+_, _*_, _≤_, _<_}
-use mathlib.Core.Path.{_≡_, refl, _∙_, ap, sym}
-use mathlib.Core.Bool.{Bool, true, false, not}
-use mathlib.Core.List.{List, [], _∷_, _++_}
+use Prim.Native.Nat.{ℕ, _<_}
+use mathlib.Core.Path.{_≡_, refl}
+use mathlib.Core.Bool.{Bool, true, false}
+use mathlib.Core.List.{List, [], _∷_}
 use native.Mathlib.Omega.{arith}
-use borrow.Author.Tests.{ltb-false, le-ltb, leb-true}
-use lib.Dec.{leb, ltb, lit<}
-use lib.ListN.{length, take, drop, length-append}
+use borrow.Author.Tests.{le-ltb}
+use lib.Dec.{lit<}
+use lib.ListN.{length, length-append}
 use Rattle.spec.specs.Choice.{pick}
 use Rattle.spec.specs.Refusals.{goodName, goodId, tooLarge}
 use Rattle.spec.specs.declared.Kind.{Kind}
 use Rattle.spec.specs.declared.Kind.the-variants.{Flag, Number, String}
-use Rattle.spec.specs.Fields.{Reading, malformed, ignored, link, capability, reading, kindNumber, withColons, size}
+use Rattle.spec.specs.Fields.{withColons, size}
 use Rattle.spec.proofs.FieldTexts.{length-closed}
-use Rattle.spec.specs.declared.Refusal.{Refusal}
-use Rattle.spec.specs.declared.Refusal.the-variants.{BadName, BadId, DatabaseTooLarge, NoRoom}
-use Rattle.spec.specs.Chain.{Field, placed, texts, Terminal, refused, terminal, resolve}
+use Rattle.spec.specs.declared.Refusal.the-variants.{BadName, BadId, DatabaseTooLarge}
+use Rattle.spec.specs.Chain.{Field, placed, texts, refused, terminal, resolve}
 use Rattle.spec.proofs.AcceptedChain.{Sound, resolved-sound, resolve-alone, texts-placed}
-use Rattle.spec.specs.declared.Answer.{Answer}
-use Rattle.spec.specs.declared.Answer.the-variants.{Present, Absent, Refused}
 use Rattle.spec.specs.Questions.{terminalOf, terminalFor, answerFor, flagAnswer, numberAnswer, stringFor, stringOutcome}
-use Rattle.spec.specs.Lookup.{canWin, winning}
-use Rattle.spec.specs.Answers.{Outcome, put}
-use Rattle.spec.proofs.Removal.{AllWin, win-judge, lookup-placed}
+use Rattle.spec.specs.Lookup.{winning}
+use Rattle.spec.specs.Answers.{put}
+use Rattle.spec.proofs.Removal.{win-judge, lookup-placed}
 use Rattle.spec.proofs.Winning.{winning-wins, winning-same, winning-sound, lookup-winning}
-use Rattle.spec.specs.Listing.{recordOf, records, listFor, listOutcome, flatText, flatFor, flatOutcome}
+use Rattle.spec.specs.Listing.{records, listFor, listOutcome, flatText, flatFor, flatOutcome}
 
 -- ---- an accepted call
 

@@ -1,16 +1,15 @@
 -- Flat is one line: a newline is its last byte and no other, and no backslash stands before it.
 -- Assumes nothing.
 use Prim.Native.Nat.{ℕ}
-use mathlib.Core.Path.{_≡_, refl, _∙_, sym}
+use mathlib.Core.Path.{_≡_, refl, sym}
 use mathlib.Core.List.{List, [], _∷_, _++_, append-assoc}
 use native.Mathlib.Omega.{arith}
 use Rattle.spec.specs.Fields.{withColons}
-use Rattle.spec.specs.Chain.{Field, texts, Terminal, terminal}
+use Rattle.spec.specs.Chain.{Field, texts, terminal}
 use Rattle.spec.specs.Lookup.{winning}
 use Rattle.spec.specs.Questions.{terminalOf}
 use Rattle.spec.specs.Listing.{flatText}
 use Rattle.spec.proofs.WholeLines.{Free, AllFree}
-use Rattle.spec.proofs.AcceptedChain.{Sound}
 use Rattle.spec.proofs.Winning.{winning-free}
 use Rattle.spec.proofs.FlatAlone.{sound}
 

@@ -10,7 +10,6 @@ use Rattle.spec.specs.Choice.{pick}
 use Rattle.spec.specs.Fields.{kindNumber, kindOf}
 use Rattle.spec.specs.declared.Kind.{Kind}
 use Rattle.spec.specs.declared.Kind.the-variants.{Flag, Number, String}
-use Rattle.spec.specs.declared.Numbered.{Numbered}
 use Rattle.spec.specs.declared.Numbered.the-variants.{Is, Nothing}
 
 pub kind-of-number : (k : Kind) → kindOf (kindNumber k) ≡ Is k

@@ -21,3 +21,4 @@ pub mod FlatAlone
 pub mod FlatLine
 pub mod PaddingLaws
 pub mod KindNumbers
+pub mod Stores

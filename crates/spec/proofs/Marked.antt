@@ -1,9 +1,14 @@
--- The marked examples (a) to (l) hold, by computation.
+-- The marked examples (a) to (l) hold, and so do the readings of open points: by computation.
 -- Assumes nothing.
-use mathlib.Core.Path.{_≡_, refl}
+use mathlib.Core.Path.{refl}
 use Rattle.spec.specs.Examples.{Marked}
+use Rattle.spec.specs.Rulings.{Ruled}
 use Rattle.spec.proofs.Computing.{computing}
 
 pub marked-examples : Marked
 unfolding computing
 marked-examples = refl
+
+pub rulings : Ruled
+unfolding computing
+rulings = (refl, refl, refl, refl)

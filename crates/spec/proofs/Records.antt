@@ -1,13 +1,13 @@
 -- The records of winning fields.
 -- Assumes nothing.
-use Prim.Native.Nat.{ℕ, zero, suc, _+_, _*_, _≤_, _<_}
-use mathlib.Core.Path.{_≡_, refl, _∙_, ap, sym}
-use mathlib.Core.Bool.{Bool, true, false, not}
-use mathlib.Core.List.{List, [], _∷_, _++_}
+use Prim.Native.Nat.{ℕ, suc, _*_, _≤_, _<_}
+use mathlib.Core.Path.{_≡_, refl, ap, sym}
+use mathlib.Core.Bool.{true}
+use mathlib.Core.List.{List, [], _∷_}
 use native.Mathlib.Omega.{arith}
 use lib.ListN.{length, length-append}
-use Rattle.spec.specs.Fields.{Content, Reading, malformed, ignored, link, capability, reading, size}
-use Rattle.spec.proofs.Readings.{Entered, reading-entered}
+use Rattle.spec.specs.Fields.{Reading, malformed, ignored, link, capability, reading, size}
+use Rattle.spec.proofs.Readings.{reading-entered}
 use Rattle.spec.specs.Chain.{Field, placed, texts}
 use Rattle.spec.specs.Lookup.{canWin, valueOf}
 use Rattle.spec.proofs.Removal.{AllWin}

@@ -1,22 +1,22 @@
 -- The winning fields by removal: a field that can win stays, and takes away what it hides of those after it. This form has no list of
 -- earlier fields, so the inductions are short; Winning.antt shows that it gives the winning fields.
 -- Assumes nothing.
-use Prim.Native.Nat.{ℕ, zero, suc, _+_, _≤_, _<_}
-use mathlib.Core.Path.{_≡_, refl, _∙_, ap, sym}
+use Prim.Native.Nat.{ℕ, _+_, _≤_, _<_}
+use mathlib.Core.Path.{_≡_, refl, _∙_, sym}
 use mathlib.Core.Bool.{Bool, true, false, not}
 use mathlib.Core.List.{List, [], _∷_, _++_}
 use native.Mathlib.Omega.{arith}
-use borrow.Author.Tests.{eqb-true, eqb-false, eq-eqb, ne-eqb}
+use borrow.Author.Tests.{eqb-true, ne-eqb}
 use lib.Dec.{eqb}
 use lib.ListN.{length}
-use Rattle.spec.specs.Choice.{pick, both, either}
+use Rattle.spec.specs.Choice.{pick, either}
 use Rattle.spec.specs.Lists.{same}
 use Rattle.spec.proofs.Tests.{clash, both-false, both-true, not-is-true}
-use Rattle.spec.proofs.WholeLines.{Free, AllFree, same-equal}
-use Rattle.spec.specs.Fields.{Reading, malformed, ignored, link, capability, Content, reading, contentKind, size, Verdict, noLink, judged, judge}
+use Rattle.spec.proofs.WholeLines.{AllFree, same-equal}
+use Rattle.spec.specs.Fields.{Reading, malformed, ignored, link, capability, reading, contentKind, size, Verdict, noLink, judged, judge}
 use Rattle.spec.specs.Chain.{Field, placed, texts}
 use Rattle.spec.proofs.AcceptedChain.{Sound}
-use Rattle.spec.specs.Lookup.{Hit, none, hit, matches, lookup, canWin, hides}
+use Rattle.spec.specs.Lookup.{none, hit, matches, lookup, canWin, hides}
 
 -- ---- readings
 

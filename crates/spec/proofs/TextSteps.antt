@@ -2,7 +2,7 @@
 -- Assumes nothing.
 use Prim.Native.Nat.{ℕ, zero, suc, _+_, _≤_, _<_}
 use mathlib.Core.Path.{_≡_, refl, _∙_}
-use mathlib.Core.Bool.{Bool, true, false, not}
+use mathlib.Core.Bool.{Bool, true, false}
 use mathlib.Core.List.{List, [], _∷_}
 use native.Mathlib.Numerals.{add-one}
 use native.Mathlib.Omega.{arith}
@@ -12,10 +12,9 @@ use native.Mathlib.Nat.{not-suc-le-zero, le-of-suc-le-suc}
 use lib.ListN.{length, drop, getD, drop-of-length-le}
 use lib.Seq.{drop-cons}
 use mathlib.Core.Logic.{_⊎_, inl, inr}
-use Rattle.spec.specs.declared.Found.{Found}
-use Rattle.spec.specs.declared.Found.the-variants.{At, Nothing}
-use Rattle.spec.specs.Choice.{pick, both, either}
-use Rattle.spec.specs.Lines.{Text, end, byte, join, textAt, lineText, laterLines, linesFrom, firstName, laterNames, blank, comment, isIgnored, hasName, Line, find}
+use Rattle.spec.specs.declared.Found.the-variants.{At}
+use Rattle.spec.specs.Choice.{pick}
+use Rattle.spec.specs.Lines.{Text, end, byte, join, textAt, lineText, laterLines, linesFrom, firstName, laterNames, blank, comment, isIgnored, hasName, find}
 use Rattle.spec.specs.Lists.{upto, laterPieces, same, among}
 use Rattle.spec.proofs.Tests.{both-false}
 

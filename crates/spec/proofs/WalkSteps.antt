@@ -1,15 +1,13 @@
 -- The walk step by step: n descriptions are passed, and room for 32 - n is left.
 -- Assumes nothing.
 use Prim.Native.Nat.{ℕ, zero, suc, _+_, _-_, _≤_, _<_}
-use mathlib.Core.Path.{_≡_, refl, _∙_, ap, sym}
-use mathlib.Core.Bool.{Bool, true, false}
+use mathlib.Core.Path.{_≡_, refl}
+use mathlib.Core.Bool.{true, false}
 use mathlib.Core.List.{List, [], _∷_, _++_}
 use native.Mathlib.Omega.{arith}
 use borrow.Author.Tests.{lt-ltb, le-ltb, eq-eqb, ne-eqb}
-use lib.Dec.{eqb, ltb}
-use Rattle.spec.specs.Choice.{pick, either}
+use lib.Dec.{ltb}
 use Rattle.spec.specs.Lines.{findLine, lineAt}
-use Rattle.spec.specs.declared.Found.{Found}
 use Rattle.spec.specs.declared.Found.the-variants.{At, Nothing}
 use Rattle.spec.specs.Fields.{lineSize, Verdict, malformedLine, noLink, linkTo, verdict}
 use Rattle.spec.specs.declared.Refusal.{Refusal}

@@ -1,7 +1,7 @@
 -- Lines as texts: the line that a search finds, and the line of a raw text that has no newline in it.
 -- Assumes nothing.
 use Prim.Native.Nat.{ℕ, zero, suc, _+_}
-use mathlib.Core.Path.{_≡_, refl, _∙_, ap, sym}
+use mathlib.Core.Path.{_≡_, refl, _∙_, ap}
 use mathlib.Core.Bool.{Bool, true, false, not}
 use mathlib.Core.List.{List, [], _∷_, _++_}
 use native.Mathlib.Numerals.{add-one}
@@ -11,10 +11,9 @@ use lib.Dec.{eqb}
 use lib.ListN.{drop}
 use lib.Seq.{drop-drop}
 use Rattle.spec.proofs.TextSteps as Laws
-use Rattle.spec.specs.declared.Found.{Found}
-use Rattle.spec.specs.declared.Found.the-variants.{At, Nothing}
-use Rattle.spec.specs.Choice.{pick, both, either}
-use Rattle.spec.specs.Lines.{Text, end, byte, join, textAt, Line, lineText, laterLines, linesFrom, isIgnored, hasName, find, findLine, lineAt}
+use Rattle.spec.specs.declared.Found.the-variants.{At}
+use Rattle.spec.specs.Choice.{pick, both}
+use Rattle.spec.specs.Lines.{Text, end, byte, join, textAt, Line, lineText, laterLines, isIgnored, hasName, find, findLine, lineAt}
 use Rattle.spec.specs.Lists.{same}
 use Rattle.spec.proofs.Tests.{both-false, both-true, not-is-true}
 

@@ -5,17 +5,15 @@ use Prim.Native.Nat.{ℕ, _+_, _≤_, _<_}
 use mathlib.Core.Path.{_≡_, refl, _∙_, ap, sym}
 use mathlib.Core.Bool.{Bool, true, false, not}
 use mathlib.Core.List.{List, [], _∷_, _++_}
-use native.Mathlib.Omega.{arith}
 use borrow.Author.Tests.{eq-eqb}
-use lib.ListN.{length}
 use Rattle.spec.specs.Choice.{pick, both, either}
-use Rattle.spec.specs.Fields.{Reading, malformed, ignored, link, capability, Content, reading, contentKind, size, noLink, judge}
-use Rattle.spec.specs.Chain.{Field, placed, texts}
-use Rattle.spec.specs.Lookup.{Hit, none, hit, matches, lookup, canWin, hides, hidden, winningAfter, winning}
-use Rattle.spec.proofs.Tests.{clash, both-false, both-true, not-is-true}
+use Rattle.spec.specs.Fields.{Reading, capability, Content, reading, contentKind, size}
+use Rattle.spec.specs.Chain.{Field, texts}
+use Rattle.spec.specs.Lookup.{hit, matches, lookup, canWin, hides, hidden, winningAfter, winning}
+use Rattle.spec.proofs.Tests.{clash, both-false}
 use Rattle.spec.proofs.AcceptedChain.{Sound}
 use Rattle.spec.proofs.WholeLines.{AllFree, equal-same}
-use Rattle.spec.proofs.Removal.{without, byRemoval, matches-hides, matches-wins, win-no-cancel, AllWin, removal-wins, removal-same, removal-twice, removal-free, removal-size, removal-sound, removal-before, lookup-removal, lookup-before-removal, lookup-cancel, lookup-hit, lookup-on}
+use Rattle.spec.proofs.Removal.{without, byRemoval, win-no-cancel, AllWin, removal-wins, removal-same, removal-free, removal-size, removal-sound, removal-before, lookup-removal, lookup-before-removal, lookup-cancel, lookup-hit, lookup-on}
 
 -- Whether a cancel of the name, or a field of the name and kind, was passed: what a table with a place for each name and kind holds.
 unfoldable pub stopped : List ℕ → ℕ → List Reading → Bool

@@ -15,4 +15,6 @@ pub mod Sequences
 pub mod Position
 pub mod Padding
 pub mod Sending
+pub mod Calls
 pub mod Examples
+pub mod Rulings

@@ -8,7 +8,7 @@ use Rattle.spec.specs.Lookup.{winning}
 use Rattle.spec.specs.Answers.{Outcome, keeping, put}
 use Rattle.spec.specs.Questions.{terminalOf}
 use Rattle.spec.specs.declared.Written.{Written}
-use Rattle.spec.specs.declared.Written.the-variants.{Count, Refused}
+use Rattle.spec.specs.declared.Written.the-variants.{Refused}
 
 -- ---- List
 

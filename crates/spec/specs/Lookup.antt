@@ -1,6 +1,6 @@
 -- "Lookup, List and Flat": which field answers for an id and a kind, and which fields win.
 use Prim.Native.Nat.{ℕ}
-use mathlib.Core.Bool.{Bool, true, false, not}
+use mathlib.Core.Bool.{Bool, false, not}
 use mathlib.Core.List.{List, [], _∷_}
 use lib.Dec.{eqb}
 use Rattle.spec.specs.Choice.{pick, both, either}

@@ -1,6 +1,6 @@
 -- "Filling in a position": the body of a command for a row and a column, and the compensations after it.
 use Prim.Native.Nat.{ℕ, zero, suc, _+_}
-use mathlib.Core.Bool.{Bool, true, false, not}
+use mathlib.Core.Bool.{not}
 use mathlib.Core.List.{List, [], _∷_, _++_}
 use lib.Dec.{eqb}
 use Rattle.spec.specs.Choice.{pick, both, isEmpty}

@@ -5,14 +5,13 @@ use mathlib.Core.List.{List, _++_}
 use lib.ListN.{length, replicate}
 use lib.Dec.{leb}
 use Rattle.spec.specs.Choice.{pick, both, between}
-use Rattle.spec.specs.Padding as Padding
 use Rattle.spec.specs.Padding.{Prefix, Split, prefixOf, delayFor, padCount}
 use Rattle.spec.specs.Position.{Body, body, fault, fillIn}
 use Rattle.spec.specs.Answers.{Outcome, keeping, put}
 use Rattle.spec.specs.declared.Refusal.{Refusal}
 use Rattle.spec.specs.declared.Refusal.the-variants.{OutOfRange}
 use Rattle.spec.specs.declared.Written.{Written}
-use Rattle.spec.specs.declared.Written.the-variants.{Count, Refused}
+use Rattle.spec.specs.declared.Written.the-variants.{Refused}
 
 -- ---- the finished command: delay (not yet times lines), star and bytes apart. "The padding prefix is split off the decoded command
 -- first, and only the body is filled in."

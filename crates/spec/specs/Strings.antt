@@ -1,6 +1,6 @@
 -- "Fields": the text of a string as it is written, and the bytes that it stands for.
 use Prim.Native.Nat.{ℕ, _+_, _-_, _*_, _%_}
-use mathlib.Core.Bool.{Bool, true, false}
+use mathlib.Core.Bool.{Bool}
 use mathlib.Core.List.{List, [], _∷_}
 use lib.Dec.{eqb, leb}
 use Rattle.spec.specs.Choice.{pick, both, between}

@@ -1,8 +1,8 @@
 -- `lines::find_line` meets its contract: what the search finds is what it finds among the lines from the outer loop's place on, and the
 -- names of the line there are those from the inner loop's place on, or none of those passed is the name.
 -- Assumes nothing.
-use Prim.Native.Nat.{_≤_, _-_}
-use mathlib.Core.Path.{_≡_, refl, _∙_, ap, sym}
+use Prim.Native.Nat.{_-_}
+use mathlib.Core.Path.{_≡_, refl, _∙_, sym}
 use native.Mathlib.Omega.{arith}
 use borrow.Author.Needs.{needs}
 use borrow.Author.Tests.{not-true, not-false}
@@ -11,12 +11,7 @@ use lib.ListN.{length}
 use Rattle.spec.proofs.TextSteps as Laws
 use Rattle.lines.proofs.find_line.Statement.{statement}
 use Rattle.lines.proofs.find_line.Tie as tie
-use Rattle.lines.proofs.find_line.Reads as reads
-use Rattle.lines.proofs.find_line.Lts as lts
-use Rattle.lines.proofs.is_ignored.Reads as is-ignored-reads
-use Rattle.lines.proofs.is_name.Reads as is-name-reads
-use Rattle.lines.proofs.next_name.Reads as next-name-reads
-use Rattle.spec.specs.Lines.{textAt, lineText, laterLines, linesFrom, firstName, laterNames, hasName, find, findLine}
+use Rattle.spec.specs.Lines.{textAt, lineText, laterLines, linesFrom, hasName, find, findLine}
 
 abbrev Inv-loop : tie.InvT-loop
 Inv-loop db name at p₀ p = hasName name (lineText (textAt db at)) ≡ hasName name (lineText (textAt db p))

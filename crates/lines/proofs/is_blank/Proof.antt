@@ -1,18 +1,14 @@
 -- `lines::is_blank` meets its contract: what is passed are spaces and tabs, so the rest of the line is blank where the line is.
 -- Assumes nothing.
-use Prim.Native.Nat.{_≤_, _-_}
-use mathlib.Core.Path.{_≡_, refl, _∙_, ap, sym}
+use Prim.Native.Nat.{_-_}
+use mathlib.Core.Path.{_≡_, refl, sym}
 use native.Mathlib.Omega.{arith}
 use borrow.Author.Needs.{needs}
 use lib.ListN.{length}
 use Rattle.spec.proofs.TextSteps as Laws
 use Rattle.lines.proofs.is_blank.Statement.{statement}
 use Rattle.lines.proofs.is_blank.Tie as tie
-use Rattle.lines.proofs.is_blank.Reads as reads
-use Rattle.lines.proofs.is_blank.Lts as lts
-use Rattle.lines.proofs.peek.Reads as peek-reads
-use Rattle.spec.specs.Lines.{textAt, lineText, laterLines, firstName, laterNames, blank}
-use Rattle.spec.specs.Lists.{same}
+use Rattle.spec.specs.Lines.{textAt, lineText, blank}
 
 abbrev Inv-loop : tie.InvT-loop
 Inv-loop s at i₀ i = blank (lineText (textAt s at)) ≡ blank (lineText (textAt s i))

@@ -1,14 +1,9 @@
 -- `lines::is_ignored` meets its contract: the first byte says whether the line is a comment, and `is_blank` whether it is blank.
 -- Assumes nothing.
-use mathlib.Core.Path.{_≡_, refl}
 use borrow.Author.Needs.{needs}
 use Rattle.spec.proofs.TextSteps as Laws
 use Rattle.lines.proofs.is_ignored.Statement.{statement}
 use Rattle.lines.proofs.is_ignored.Tie as tie
-use Rattle.lines.proofs.is_ignored.Reads as reads
-use Rattle.lines.proofs.is_ignored.Lts as lts
-use Rattle.lines.proofs.is_blank.Reads as is-blank-reads
-use Rattle.lines.proofs.peek.Reads as peek-reads
 use Rattle.spec.specs.Lines.{lineText, comment, blank}
 
 peek-requires : tie.Need-peek-requires

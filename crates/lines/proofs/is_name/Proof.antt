@@ -1,17 +1,14 @@
 -- `lines::is_name` meets its contract: the first k bytes of the name are those passed, so what is left of it decides.
 -- Assumes nothing.
-use Prim.Native.Nat.{_≤_, _-_, _+_}
-use mathlib.Core.Path.{_≡_, refl, _∙_, ap, sym}
+use Prim.Native.Nat.{_≤_, _-_}
+use mathlib.Core.Path.{_≡_, refl, sym}
 use native.Mathlib.Omega.{arith}
 use borrow.Author.Needs.{needs}
 use lib.ListN.{length}
 use Rattle.spec.proofs.TextSteps as Laws
 use Rattle.lines.proofs.is_name.Statement.{statement}
 use Rattle.lines.proofs.is_name.Tie as tie
-use Rattle.lines.proofs.is_name.Reads as reads
-use Rattle.lines.proofs.is_name.Lts as lts
-use Rattle.lines.proofs.peek.Reads as peek-reads
-use Rattle.spec.specs.Lines.{textAt, lineText, laterLines, firstName}
+use Rattle.spec.specs.Lines.{textAt, lineText, firstName}
 use Rattle.spec.specs.Lists.{upto, same}
 use Rattle.spec.proofs.TextSteps.{rest}
 

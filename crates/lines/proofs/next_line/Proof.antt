@@ -7,9 +7,6 @@ use borrow.Author.Needs.{needs}
 use lib.ListN.{length}
 use Rattle.lines.proofs.next_line.Statement.{statement}
 use Rattle.lines.proofs.next_line.Tie as tie
-use Rattle.lines.proofs.next_line.Reads as reads
-use Rattle.lines.proofs.next_line.Lts as lts
-use Rattle.lines.proofs.peek.Reads as peek-reads
 use Rattle.spec.specs.Lines.{textAt, laterLines}
 use Rattle.spec.proofs.TextSteps.{lines-cut, lines-on}
 

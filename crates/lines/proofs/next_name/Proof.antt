@@ -1,17 +1,14 @@
 -- `lines::next_name` meets its contract: what is passed belongs to the first name, so the later names are the same.
 -- Assumes nothing.
 use Prim.Native.Nat.{_≤_, _-_}
-use mathlib.Core.Path.{_≡_, refl, _∙_, ap, sym}
+use mathlib.Core.Path.{_≡_, refl}
 use native.Mathlib.Omega.{arith}
 use borrow.Author.Needs.{needs}
 use lib.ListN.{length}
 use Rattle.spec.proofs.TextSteps as Laws
 use Rattle.lines.proofs.next_name.Statement.{statement}
 use Rattle.lines.proofs.next_name.Tie as tie
-use Rattle.lines.proofs.next_name.Reads as reads
-use Rattle.lines.proofs.next_name.Lts as lts
-use Rattle.lines.proofs.peek.Reads as peek-reads
-use Rattle.spec.specs.Lines.{textAt, lineText, laterLines, firstName, laterNames}
+use Rattle.spec.specs.Lines.{textAt, lineText, laterNames}
 use Rattle.spec.specs.Lists.{upto, laterPieces}
 
 abbrev Inv-loop : tie.InvT-loop

@@ -6,8 +6,6 @@ use native.Mathlib.Omega.{arith}
 use lib.ListN.{length}
 use Rattle.lines.proofs.peek.Statement.{statement}
 use Rattle.lines.proofs.peek.Tie as tie
-use Rattle.lines.proofs.peek.Reads as reads
-use Rattle.lines.proofs.peek.Lts as lts
 use Rattle.spec.specs.Lines.{textAt}
 use Rattle.spec.proofs.TextSteps.{text-end, text-pair, text-last, text-byte, text-slash}
 

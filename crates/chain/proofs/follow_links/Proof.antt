@@ -1,0 +1,173 @@
+-- `chain::follow_links` meets its contract: the walk is what is still to be followed from the places passed, with the size that is left.
+-- Assumes nothing.
+use Prim.Native.Nat.{ℕ, _-_, _≤_}
+use mathlib.Core.Path.{_≡_, refl, _∙_, sym}
+use mathlib.Core.List.{List}
+use native.Mathlib.Omega.{arith}
+use borrow.Author.Needs.{needs}
+use lib.ListN.{length, length-set}
+use Rattle.spec.specs.declared.Found.{Found}
+use Rattle.spec.specs.declared.Refusal.{Refusal}
+use Rattle.spec.specs.Chain.{follow, walk}
+use Rattle.spec.proofs.WalkSteps
+use Rattle.spec.proofs.Judging.{verdict-good, good-name-short}
+use Rattle.chain.specs.Answers.{placesOf}
+use Rattle.chain.specs.declared.Chain.{Chain}
+use Rattle.chain.proofs.WalkPlaces
+use Rattle.chain.proofs.follow_links.Statement.{statement}
+use Rattle.chain.proofs.follow_links.Tie as tie
+
+record Going (db name : List ℕ) (c : Chain) (left : ℕ) (missing : Refusal) (found : Found) : Type 0 where
+  count : c .count ≤ 32
+  size : left ≤ 16384
+  array : length (c .places) ≡ 32
+  walked : walk db name ≡ follow db (32 - c .count) (placesOf c) (16384 - left) missing found
+
+abbrev Inv-loop : tie.InvT-loop
+Inv-loop db name c₀ left₀ missing₀ found₀ c left missing found = Going db name c left missing found
+
+abbrev μ-loop : tie.MeasureT-loop
+μ-loop db name c₀ left₀ missing₀ found₀ c left missing found = 32 - c .count
+
+find-line-requires : tie.Need-find-line-requires Inv-loop μ-loop
+find-line-requires c κs = search needs
+
+loop-holds : tie.Need-loop-holds Inv-loop μ-loop
+loop-holds c = record { count = omega arith; size = omega arith; array = refl; walked = rw (c .find-line .ensures) (WalkSteps.walk-first _ _) }
+
+enum-known-found : tie.Need-enum-known-found Inv-loop μ-loop
+enum-known-found c = search needs
+
+enum-told : tie.Need-enum-told Inv-loop μ-loop
+enum-told c = search needs
+
+refused-requires : tie.Need-refused-requires Inv-loop μ-loop
+refused-requires c κs = search needs
+
+returns : tie.Need-returns Inv-loop μ-loop
+returns c = rw (c .refused .ensures) (rw (c .before .enum-told .given .1) at (c .before .before .before .loop .inv .walked) ∙ WalkSteps.follow-none _ _ _ _ _)
+
+is-visited-requires : tie.Need-is-visited-requires Inv-loop μ-loop
+is-visited-requires c κs = omega arith
+
+refused-requires-2 : tie.Need-refused-requires-2 Inv-loop μ-loop
+refused-requires-2 c κs = search needs
+
+returns-2 : tie.Need-returns-2 Inv-loop μ-loop
+returns-2 c =
+    let v = sym (c .before .before .is-visited .ensures) ∙ c .before .if1 .taken in
+    rw (c .refused2 .ensures) (rw (c .before .before .before .before .found .given .1) at (c .before .before .before .before .before .before .loop .inv .walked) ∙ WalkSteps.follow-back _ _ _ _ _ _ v)
+
+refused-requires-3 : tie.Need-refused-requires-3 Inv-loop μ-loop
+refused-requires-3 c κs = search needs
+
+returns-3 : tie.Need-returns-3 Inv-loop μ-loop
+returns-3 c =
+    let v = sym (c .before .before .before .before .is-visited .ensures) ∙ c .before .before .before .if1 .left in
+    rw (c .refused3 .ensures) (rw (c .before .before .before .before .before .before .found .given .1) at (c .before .before .before .before .before .before .before .before .loop .inv .walked) ∙ WalkSteps.follow-full _ _ _ _ _ _ (omega arith) v)
+
+judge-line-requires : tie.Need-judge-line-requires Inv-loop μ-loop
+judge-line-requires c κs = search needs
+
+enum-told-2 : tie.Need-enum-told-2 Inv-loop μ-loop
+enum-told-2 c = search needs
+
+refused-requires-4 : tie.Need-refused-requires-4 Inv-loop μ-loop
+refused-requires-4 c κs = search needs
+
+returns-4 : tie.Need-returns-4 Inv-loop μ-loop
+returns-4 c =
+    let v = sym (c .before .before .before .before .before .before .before .is-visited .ensures) ∙ c .before .before .before .before .before .before .if1 .left in
+    let q = rw (c .before .enum-told2 .given .1) at (c .before .before .before .judge-line .ensures) in
+    rw (c .refused4 .ensures) (rw (c .before .before .before .before .before .before .before .before .before .found .given .1) at (c .before .before .before .before .before .before .before .before .before .before .before .loop .inv .walked) ∙ WalkPlaces.turn-spoilt _ _ _ _ _ _ (omega arith) (omega arith) (omega arith) v q)
+
+enum-known-size : tie.Need-enum-known-size Inv-loop μ-loop
+enum-known-size c = search needs
+
+refused-requires-5 : tie.Need-refused-requires-5 Inv-loop μ-loop
+refused-requires-5 c κs = search needs
+
+returns-5 : tie.Need-returns-5 Inv-loop μ-loop
+returns-5 c =
+    let v = sym (c .before .before .before .before .before .before .before .before .before .is-visited .ensures) ∙ c .before .before .before .before .before .before .before .before .if1 .left in
+    let q = rw (c .before .before .before .size .given .1) at (c .before .before .before .before .before .judge-line .ensures) in
+    rw (c .refused5 .ensures) (rw (c .before .before .before .before .before .before .before .before .before .before .before .found .given .1) at (c .before .before .before .before .before .before .before .before .before .before .before .before .before .loop .inv .walked) ∙ WalkPlaces.turn-big _ _ _ _ _ _ (omega arith) (omega arith) (omega arith) v _ (WalkPlaces.last-not _ (q .0)) (q .1) (omega arith))
+
+with-place-requires : tie.Need-with-place-requires Inv-loop μ-loop
+with-place-requires c κs = omega arith
+
+returns-6 : tie.Need-returns-6 Inv-loop μ-loop
+returns-6 c =
+    let v = sym (c .before .before .before .before .before .before .before .before .before .is-visited .ensures) ∙ c .before .before .before .before .before .before .before .before .if1 .left in
+    let q = rw (c .before .before .before .size .given .1) at (c .before .before .before .before .before .judge-line .ensures) in
+    let p = c .with-place .ensures in
+    (rw (p .0, p .1) (rw (c .before .before .before .before .before .before .before .before .before .before .before .found .given .1) at (c .before .before .before .before .before .before .before .before .before .before .before .before .before .loop .inv .walked) ∙ WalkPlaces.turn-last _ _ _ _ _ _ (omega arith) (omega arith) (omega arith) v _ (q .0) (q .1) (omega arith)), omega arith, omega arith)
+
+enum-known-size-2 : tie.Need-enum-known-size-2 Inv-loop μ-loop
+enum-known-size-2 c = search needs
+
+refused-requires-6 : tie.Need-refused-requires-6 Inv-loop μ-loop
+refused-requires-6 c κs = search needs
+
+returns-7 : tie.Need-returns-7 Inv-loop μ-loop
+returns-7 c =
+    let v = sym (c .before .before .before .before .before .before .before .before .before .is-visited .ensures) ∙ c .before .before .before .before .before .before .before .before .if1 .left in
+    let q = rw (c .before .before .before .size2 .given .1) at (c .before .before .before .before .before .judge-line .ensures) in
+    rw (c .refused6 .ensures) (rw (c .before .before .before .before .before .before .before .before .before .before .before .found .given .1) at (c .before .before .before .before .before .before .before .before .before .before .before .before .before .loop .inv .walked) ∙ WalkPlaces.turn-big _ _ _ _ _ _ (omega arith) (omega arith) (omega arith) v _ (WalkPlaces.next-not _ _ (q .0)) (q .1) (omega arith))
+
+with-place-requires-2 : tie.Need-with-place-requires-2 Inv-loop μ-loop
+with-place-requires-2 c κs = omega arith
+
+find-linked-requires : tie.Need-find-linked-requires Inv-loop μ-loop
+find-linked-requires c κs =
+    let q = rw (c .before .before .before .size2 .given .1) at (c .before .before .before .before .before .judge-line .ensures) in
+    good-name-short _ (verdict-good _ _ (q .0))
+
+loop-less : tie.Need-loop-less Inv-loop μ-loop
+loop-less c = omega arith
+
+loop-again : tie.Need-loop-again Inv-loop μ-loop
+loop-again c =
+    let v = sym (c .before .before .before .before .before .before .before .before .before .before .is-visited .ensures) ∙ c .before .before .before .before .before .before .before .before .before .if1 .left in
+    let q = rw (c .before .before .before .before .size2 .given .1) at (c .before .before .before .before .before .before .judge-line .ensures) in
+    let p = c .before .with-place2 .ensures in
+    record {
+      count = omega arith;
+      size = omega arith;
+      array = rw (p .0) (simp length-set (c .before .before .before .before .before .before .before .before .before .before .before .before .before .before .loop .inv .array));
+      walked = rw (p .0, p .1, c .find-linked .ensures) (rw (c .before .before .before .before .before .before .before .before .before .before .before .before .found .given .1) at (c .before .before .before .before .before .before .before .before .before .before .before .before .before .before .loop .inv .walked) ∙ WalkPlaces.turn-next _ _ _ _ _ _ (omega arith) (omega arith) (omega arith) v _ _ (q .0) (q .1) (omega arith));
+    }
+
+pub follow-links-spec : {M : Type 1} → statement M
+follow-links-spec =
+    tie.close
+    (tie.spec
+    Inv-loop
+    μ-loop
+    find-line-requires
+    loop-holds
+    enum-known-found
+    enum-told
+    refused-requires
+    returns
+    is-visited-requires
+    refused-requires-2
+    returns-2
+    refused-requires-3
+    returns-3
+    judge-line-requires
+    enum-told-2
+    refused-requires-4
+    returns-4
+    enum-known-size
+    refused-requires-5
+    returns-5
+    with-place-requires
+    returns-6
+    enum-known-size-2
+    refused-requires-6
+    returns-7
+    with-place-requires-2
+    find-linked-requires
+    loop-less
+    loop-again)

@@ -1,0 +1,151 @@
+-- Readings of document 01's open points, as calls: docs/DECISIONS.md says which point each group is about, and why it is read so.
+use Prim.Native.Nat.{ℕ}
+use mathlib.Core.List.{List, [], _∷_, _++_}
+use lib.ListN.{replicate}
+use Rattle.spec.specs.Calls.{ascii, show, flag, number, string, list, send, sendAt, reports, refuses, Example, example, AllHold}
+
+-- ---- lines and names
+
+abbrev pub lineRulings : List Example
+lineRulings =
+    -- the preceding byte is the database's own, and backslashes are not counted
+    example (string "n:cl=\\\\\nE:" "n" "cl" 3) (reports (1 ∷ []) (27 ∷ []) 2)
+    ∷ example (flag "n:le=\\\\\n\nm:am:" "n" "le") (refuses 6 0)
+    ∷ example (flag "n:le=\\\\\n\nm:am:" "m" "am") (reports (1 ∷ []) [] 0)
+    -- a backslash at the very end stays
+    ∷ example (flag "n:am\\" "n" "am") (refuses 6 0)
+    ∷ example (string "n:le=\\\\" "n" "le" 1) (reports (1 ∷ []) (92 ∷ []) 0)
+    ∷ example (string "n:le=^\\" "n" "le" 1) (reports (1 ∷ []) (28 ∷ []) 0)
+    ∷ example (list "n:.x\\" "n" 0) (reports (0 ∷ []) [] 0)
+    -- comments are joined lines that start with `#`; a physical line inside a line is none
+    ∷ example (show "\\\n#c:am:\n" "#c") (refuses 4 0)
+    ∷ example (show " #c\n" " #c") (reports (0 ∷ 3 ∷ []) [] 0)
+    ∷ example (flag "n:am:\\\n#foo:" "n" "am") (refuses 6 0)
+    -- a comment that ends in a backslash swallows its next line
+    ∷ example (show "# c\\\nn:am:\n" "n") (refuses 4 0)
+    -- an ignored line holds no names, but a blank name can be asked
+    ∷ example (show "  \n  :am:\n" "  ") (reports (3 ∷ 9 ∷ []) [] 0)
+    -- a line without a colon is shown, is malformed, and shadows later lines
+    ∷ example (show "n\nn:am:" "n") (reports (0 ∷ 1 ∷ []) [] 0)
+    ∷ example (flag "n\nn:am:" "n" "am") (refuses 6 0)
+    -- names are never judged, and a backslash before the colon protects nothing
+    ∷ example (flag "||n|\t|:am:" "n" "am") (reports (1 ∷ []) [] 0)
+    ∷ example (flag "n|a\\:am:" "n" "am") (reports (1 ∷ []) [] 0)
+    -- a line is shown with the joined pair that it begins with, without its closing newline
+    ∷ example (show "m:\n\\\nn:am:\n" "n") (reports (3 ∷ 10 ∷ []) [] 0)
+    -- a carriage return is an ordinary byte
+    ∷ example (flag "n:am:\r\n" "n" "am") (refuses 6 0)
+    -- the empty database has no description
+    ∷ example (show "" "n") (refuses 4 0)
+    ∷ []
+
+-- ---- fields, the walk and the order
+
+abbrev pub fieldRulings : List Example
+fieldRulings =
+    -- `tc` without a good name after it is malformed, not lost
+    example (flag "n:tc=:" "n" "am") (refuses 6 0)
+    ∷ example (flag "n:tc:" "n" "am") (refuses 6 0)
+    ∷ example (flag "n:tc=m:" "n" "am") (refuses 5 0)
+    -- only ignored fields may stand after a link
+    ∷ example (flag "n:tc=m::.x: \t:\nm:am:" "n" "am") (reports (1 ∷ []) [] 0)
+    ∷ example (flag "n:tc=m:am:\nm:am:" "n" "am") (refuses 6 0)
+    -- name bytes may be `#`, `=`, `@`
+    ∷ example (number "n:a##5:" "n" "a#") (reports (5 ∷ []) [] 0)
+    ∷ example (flag "n:==:" "n" "==") (reports (1 ∷ []) [] 0)
+    ∷ example (flag "n:@@@:@@:" "n" "@@") (reports [] [] 0)
+    -- a dot first ignores whatever follows; a blank before it does not
+    ∷ example (list "n:.\\:\t:" "n" 0) (reports (0 ∷ []) [] 0)
+    ∷ example (list "n: .x:" "n" 0) (refuses 6 0)
+    -- a caret takes the backslash after it; `^@` and `^`` are 0
+    ∷ example (string "n:cl=^\\072^^^@^`^?:" "n" "cl" 8) (reports (8 ∷ []) (28 ∷ 48 ∷ 55 ∷ 50 ∷ 30 ∷ 0 ∷ 0 ∷ 127 ∷ []) 0)
+    -- `\:` is no escape: the field ends at the colon
+    ∷ example (string "n:cl=\\::" "n" "cl" 1) (refuses 6 1)
+    ∷ example (string "n:cl=\\072:" "n" "cl" 2) (reports (1 ∷ []) (58 ∷ []) 1)
+    ∷ example (string "n:cl=\\377:" "n" "cl" 1) (reports (1 ∷ []) (255 ∷ []) 0)
+    ∷ example (string "n:cl=\\400:" "n" "cl" 1) (refuses 6 1)
+    -- one to six decimal digits of at most 65,535
+    ∷ example (number "n:li#000030:" "n" "li") (reports (30 ∷ []) [] 0)
+    ∷ example (number "n:li#0000030:" "n" "li") (refuses 6 0)
+    ∷ example (number "n:li#65535:" "n" "li") (reports (65535 ∷ []) [] 0)
+    ∷ example (number "n:li#65536:" "n" "li") (refuses 6 0)
+    -- 1 before 2 before the walk; an absent string needs no room
+    ∷ example (flag "" "a|b" "tc") (refuses 1 0)
+    ∷ example (flag "" "n" "tc") (refuses 2 0)
+    ∷ example (string "n:am:" "n" "am" 0) (reports [] [] 0)
+    ∷ example (string "n:cl=ab:" "n" "cl" 1) (refuses 9 1)
+    -- the line counts, not the name: a name may recur, a line may not
+    ∷ example (flag "x|a:tc=b:\nb|a:am:" "x" "am") (reports (1 ∷ []) [] 0)
+    ∷ example (flag "a|b:tc=b:\nb:am:" "a" "am") (refuses 7 0)
+    -- a cancel hides fields of later descriptions
+    ∷ example (flag "n:am@:tc=m:\nm:am:" "n" "am") (reports [] [] 0)
+    ∷ []
+
+-- ---- filling in
+
+abbrev back : List ℕ
+back = ascii "bk"
+
+abbrev up : List ℕ
+up = ascii "U"
+
+abbrev pub positionRulings : List Example
+positionRulings =
+    -- the first unused one is the next, after an exchange the column; the axis stays
+    example (sendAt (ascii "%r%d,%d") 1 2 [] [] 3) (reports (3 ∷ []) (ascii "2,1") 0)
+    ∷ example (sendAt (ascii "%d%r") 1 2 [] [] 3) (refuses 11 3)
+    ∷ example (sendAt (ascii "%d%i%d") 1 2 [] [] 2) (reports (2 ∷ []) (ascii "13") 0)
+    ∷ example (sendAt (ascii "%d%d%i") 1 2 [] [] 3) (refuses 11 3)
+    ∷ example (sendAt (ascii "%2%3") 7 1234 [] [] 6) (reports (6 ∷ []) (ascii "071234") 0)
+    ∷ example (sendAt (ascii "%n%d %d") 1 96 [] [] 4) (reports (4 ∷ []) (ascii "97 0") 0)
+    ∷ example (sendAt (ascii "%>! %d") 34 0 [] [] 2) (reports (2 ∷ []) (ascii "66") 0)
+    ∷ example (sendAt (ascii "%>! %d") 33 0 [] [] 2) (reports (2 ∷ []) (ascii "33") 0)
+    ∷ example (sendAt (ascii "%%") 0 0 [] [] 1) (reports (1 ∷ []) (ascii "%") 0)
+    -- 10 before 11 before 12; operands may be percent signs
+    ∷ example (sendAt (ascii "%d%d%+") 1 2 [] [] 3) (refuses 10 3)
+    ∷ example (sendAt (ascii "%") 1 2 [] [] 1) (refuses 10 1)
+    ∷ example (sendAt (ascii "%>a") 1 2 [] [] 1) (refuses 10 1)
+    ∷ example (sendAt (ascii "%d%d%.") 1 2 [] [] 3) (refuses 11 3)
+    ∷ example (sendAt (ascii "%.") 256 0 [] [] 1) (refuses 12 1)
+    ∷ example (sendAt (ascii "%+%") 1 2 [] [] 1) (reports (1 ∷ []) (38 ∷ []) 0)
+    -- the sum is tested, not the value; a negative is refused before it could be raised
+    ∷ example (sendAt (ascii "%D%+ ") 9 0 [] [] 1) (reports (1 ∷ []) (23 ∷ []) 0)
+    ∷ example (sendAt (ascii "%D%.") 9 0 back up 1) (refuses 12 1)
+    ∷ example (sendAt (ascii "%D%n") 9 0 [] [] 1) (refuses 12 1)
+    ∷ example (sendAt (ascii "%B%B%B") 9999 0 [] [] 1) (refuses 12 1)
+    -- raised by one, compensated in order and by type; the three rules on empty strings
+    ∷ example (sendAt (ascii "%.%.x") 0 9 back up 6) (reports (6 ∷ []) (1 ∷ 10 ∷ ascii "xUbk") 0)
+    ∷ example (sendAt (ascii "%r%.%.x") 0 9 back up 6) (reports (6 ∷ []) (10 ∷ 1 ∷ ascii "xbkU") 0)
+    ∷ example (sendAt (ascii "%.%.x") 0 9 [] up 5) (reports (5 ∷ []) (1 ∷ 10 ∷ ascii "xU" ++ (8 ∷ [])) 0)
+    ∷ example (sendAt (ascii "%.%.x") 0 9 back [] 5) (reports (5 ∷ []) (0 ∷ 10 ∷ ascii "xbk") 0)
+    ∷ example (sendAt (ascii "%.%.x") 0 9 [] [] 3) (reports (3 ∷ []) (0 ∷ 9 ∷ ascii "x") 0)
+    ∷ []
+
+-- ---- padding and the order of Send
+
+abbrev pub paddingRulings : List Example
+paddingRulings =
+    -- the prefix is split off before the body is filled in
+    example (sendAt (ascii "%dA") 5 0 [] [] 2) (reports (2 ∷ []) (ascii "5A") 0)
+    -- over 4 digits before the point, also without a point; over one after it
+    ∷ example (send (ascii "12345") 1 0 1) (refuses 13 1)
+    ∷ example (send (ascii "00001") 1 0 1) (refuses 13 1)
+    ∷ example (send (ascii "1.23") 1 0 1) (refuses 13 1)
+    ∷ example (send (ascii "1.2.3") 1 0 2) (reports (2 ∷ []) (ascii ".3") 0)
+    ∷ example (send (ascii "5.*") 1 0 2) (reports (2 ∷ []) (ascii ".*") 0)
+    ∷ example (send (ascii "5*.3") 1 0 2) (reports (2 ∷ []) (ascii ".3") 0)
+    ∷ example (send (ascii "5**") 1 0 1) (reports (1 ∷ []) (ascii "*") 0)
+    ∷ example (send (ascii ".5x") 1 9600 3) (reports (3 ∷ []) (ascii ".5x") 0)
+    -- the tenth is multiplied by the lines too; percent signs are copied
+    ∷ example (send (ascii "1.5*%d") 2 9600 5) (reports (5 ∷ []) (ascii "%d" ++ replicate 3 0) 0)
+    -- 12 for the inputs, also without padding, comes before 13, and 13 before the body
+    ∷ example (send (ascii "12345") 0 0 1) (refuses 12 1)
+    ∷ example (send (ascii "x") 1001 0 1) (refuses 12 1)
+    ∷ example (send (ascii "x") 1 115201 1) (refuses 12 1)
+    ∷ example (sendAt (ascii "12345") 10000 0 [] [] 1) (refuses 12 1)
+    ∷ example (sendAt (ascii "12345%x") 0 0 [] [] 1) (refuses 13 1)
+    ∷ example (sendAt [] 9999 9999 [] [] 0) (reports (0 ∷ []) [] 0)
+    ∷ []
+
+abbrev pub Ruled : Type 0
+Ruled = AllHold lineRulings × AllHold fieldRulings × AllHold positionRulings × AllHold paddingRulings
