@@ -50,14 +50,14 @@ Sized s at i n = size (split (lineAt s at)) ≡ n + size (split (lineAt s i))
 
 module _ (s : List ℕ) (at i n : ℕ) (q : Sized s at i n) where
   module _ (k next : ℕ) (e : split (lineAt s i) ≡ fieldAt s i ∷ split (lineAt s next)) (f : length (fieldAt s i) ≡ k) where
-    pub sized-on : Sized s at next (n + (k + 1))
+    sized-on : Sized s at next (n + (k + 1))
     unfolding size
     sized-on = q ∙ omega (arith, ap size e)
 
     pub sized-room : n + (k + 1) + size (split (lineAt s next)) ≤ length s + 1
     sized-room = omega (arith, sized-on, size-bound s at)
 
-  pub sized-done : split (lineAt s i) ≡ [] → size (split (lineAt s at)) ≡ n
+  sized-done : split (lineAt s i) ≡ [] → size (split (lineAt s at)) ≡ n
   unfolding size
   sized-done e = q ∙ omega (arith, ap size e)
 

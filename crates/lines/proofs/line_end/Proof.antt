@@ -28,22 +28,22 @@ enum-known-b : tie.Need-enum-known-b Inv-loop μ-loop
 enum-known-b c = search needs
 
 sub-result : tie.Need-sub-result Inv-loop μ-loop
-sub-result c = 
+sub-result c =
     let p = rw (c .before .before .b .given .1) at (c .before .before .before .before .peek .ensures) in
     omega arith
 
 returns : tie.Need-returns Inv-loop μ-loop
-returns c = 
+returns c =
     let p = rw (c .before .before .b .given .1) at (c .before .before .before .before .peek .ensures) in
     sym (c .before .before .before .before .before .loop .inv ∙ extent-newline _ _ _ _ _ (p .0) (c .if1 .taken))
 
 loop-less : tie.Need-loop-less Inv-loop μ-loop
-loop-less c = 
+loop-less c =
     let p = rw (c .before .before .b .given .1) at (c .before .before .before .before .peek .ensures) in
     omega arith
 
 loop-again : tie.Need-loop-again Inv-loop μ-loop
-loop-again c = 
+loop-again c =
     let p = rw (c .before .before .b .given .1) at (c .before .before .before .before .peek .ensures) in
     c .before .before .before .before .before .loop .inv ∙ extent-on _ _ _ _ (p .0) (c .if1 .left)
 
@@ -51,7 +51,7 @@ enum-told : tie.Need-enum-told Inv-loop μ-loop
 enum-told c = search needs
 
 returns-2 : tie.Need-returns-2 Inv-loop μ-loop
-returns-2 c = 
+returns-2 c =
     let p = rw (c .enum-told .given .1) at (c .before .before .peek .ensures) in
     sym (c .before .before .before .loop .inv ∙ extent-end _ _ p)
 
