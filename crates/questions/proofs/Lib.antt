@@ -1,0 +1,4 @@
+pub mod Scanning
+pub mod AskedNames
+pub mod Terminals
+pub mod WrittenStrings
