@@ -8,10 +8,10 @@ use mathlib.Core.Logic.{_⊎_, inl, inr, ⊎-elim}
 use native.Mathlib.Omega.{arith}
 use borrow.Author.Tests.{eq-eqb, ne-eqb}
 use lib.ListN.{length}
-use Rattle.spec.specs.Lists.{upto, holds, past}
-use Rattle.spec.specs.Lines.{Text, end, byte, textAt, lineText, lineAt}
+use Rattle.spec.specs.Lists.{holds, past}
+use Rattle.spec.specs.Lines.{end, byte, textAt, lineText, lineAt}
 use Rattle.spec.proofs.TextSteps.{line-end, line-on}
-use Rattle.spec.proofs.FieldSteps.{field-nil, past-nil, field-end, field-on, past-end, past-here, past-on}
+use Rattle.spec.proofs.FieldSteps.{field-nil, field-end, field-on, past-here, past-on}
 use Rattle.fields.specs.Answers.{fieldAt}
 
 -- ---- the field at a place, by what the text there starts with

@@ -1,7 +1,7 @@
 -- A line's fields judged one by one: what was passed, its size, and what is left.
 -- Assumes nothing.
-use Prim.Native.Nat.{ℕ, zero, suc, _+_, _≤_, _<_}
-use mathlib.Core.Path.{_≡_, refl, _∙_, ap, sym}
+use Prim.Native.Nat.{ℕ, _+_, _≤_}
+use mathlib.Core.Path.{_≡_, refl, _∙_, ap}
 use mathlib.Core.Bool.{Bool, true, false}
 use mathlib.Core.List.{List, [], _∷_}
 use native.Mathlib.Omega.{arith}
@@ -10,8 +10,8 @@ use types.Run.{OneOf, miss}
 use lib.ListN.{length}
 use Rattle.spec.specs.Choice.{pick}
 use Rattle.spec.specs.Lines.{lineAt}
-use Rattle.spec.specs.Fields.{malformed, link, reading, split, size, isIgnoredField, allIgnored, judge, malformedLine, noLink}
-use Rattle.spec.proofs.Judging.{judge-nil, judge-malformed, judge-ignored, judge-entry, judge-link, judge-after, ignored-on, ignored-not, ignored-nil}
+use Rattle.spec.specs.Fields.{malformed, link, reading, split, size, isIgnoredField, allIgnored, judge}
+use Rattle.spec.proofs.Judging.{judge-nil, judge-malformed, judge-ignored, judge-entry, judge-link, judge-after, ignored-not, ignored-nil}
 use Rattle.fields.specs.Answers.{fieldAt, Reads, FieldsJudged}
 use Rattle.fields.specs.Judgement.{linked}
 use Rattle.fields.specs.declared.FieldRead.{FieldRead}
@@ -50,14 +50,14 @@ Sized s at i n = size (split (lineAt s at)) ≡ n + size (split (lineAt s i))
 
 module _ (s : List ℕ) (at i n : ℕ) (q : Sized s at i n) where
   module _ (k next : ℕ) (e : split (lineAt s i) ≡ fieldAt s i ∷ split (lineAt s next)) (f : length (fieldAt s i) ≡ k) where
-    pub sized-on : Sized s at next (n + (k + 1))
+    sized-on : Sized s at next (n + (k + 1))
     unfolding size
     sized-on = q ∙ omega (arith, ap size e)
 
     pub sized-room : n + (k + 1) + size (split (lineAt s next)) ≤ length s + 1
     sized-room = omega (arith, sized-on, size-bound s at)
 
-  pub sized-done : split (lineAt s i) ≡ [] → size (split (lineAt s at)) ≡ n
+  sized-done : split (lineAt s i) ≡ [] → size (split (lineAt s at)) ≡ n
   unfolding size
   sized-done e = q ∙ omega (arith, ap size e)
 

@@ -1,7 +1,7 @@
 -- A line at a place is no longer than what it is read from, and so are its fields.
 -- Assumes nothing.
-use Prim.Native.Nat.{ℕ, zero, suc, _+_, _≤_, _<_}
-use mathlib.Core.Path.{_≡_, refl, _∙_, ap}
+use Prim.Native.Nat.{ℕ, suc, _+_, _≤_, _<_}
+use mathlib.Core.Path.{_≡_}
 use mathlib.Core.Bool.{Bool, true, false}
 use mathlib.Core.List.{List, [], _∷_}
 use native.Mathlib.Decide.{decLt}
@@ -9,7 +9,7 @@ use native.Mathlib.Omega.{arith}
 use lib.Dec.{eqb}
 use lib.ListN.{length, drop, length-drop}
 use Rattle.spec.specs.Choice.{pick, both}
-use Rattle.spec.specs.Lines.{end, byte, join, textAt, lineText, lineAt}
+use Rattle.spec.specs.Lines.{byte, join, textAt, lineText, lineAt}
 use Rattle.spec.specs.Fields.{split, size}
 use Rattle.spec.proofs.TextSteps.{text-end}
 use Rattle.spec.proofs.FieldSteps.{split-nil, open-end, split-size}

@@ -1,15 +1,15 @@
 -- Names and ids by their bytes, as a reader of a field meets them.
 -- Assumes nothing.
 use Prim.Native.Nat.{ℕ, zero, suc, _+_, _≤_, _<_}
-use mathlib.Core.Path.{_≡_, refl, _∙_, ap, sym}
-use mathlib.Core.Bool.{Bool, true, false, not}
+use mathlib.Core.Path.{_≡_, refl, _∙_, ap}
+use mathlib.Core.Bool.{true, false, not}
 use mathlib.Core.List.{List, [], _∷_}
 use mathlib.Core.Logic.{_⊎_, inl, inr}
 use native.Mathlib.Omega.{arith}
 use borrow.Author.Tests.{eq-eqb, ne-eqb, le-leb, lt-leb}
 use lib.Dec.{eqb, leb, ltb}
 use lib.ListN.{length}
-use Rattle.spec.specs.Choice.{both, either, between}
+use Rattle.spec.specs.Choice.{between}
 use Rattle.spec.specs.Lines.{blank}
 use Rattle.spec.specs.Refusals.{nameByte, nameBytes, goodName, idByte, isTc, idBytes}
 use Rattle.spec.proofs.FieldSteps.{outside}
@@ -96,17 +96,17 @@ good-is n (suc k) e h f = rw (e, f, le-leb (suc k) 64 h, le-leb 1 (suc k) (omega
 
 module _ (s : List ℕ) (at i k : ℕ) (q : Named s at i k) where
   module _ (b n : ℕ) (e : fieldAt s i ≡ b ∷ fieldAt s n) where
-    pub named-long : k ≡ 64 → goodName (fieldAt s at) ≡ false
+    pub named-long : 64 ≤ k → goodName (fieldAt s at) ≡ false
     named-long h = good-long (fieldAt s at) (omega (arith, q .count, ap length e))
 
     pub named-not : nameByte b ≡ false → goodName (fieldAt s at) ≡ false
     unfolding nameBytes
     named-not h = good-not (fieldAt s at) (q .bytes ∙ rw (e, h))
 
-    pub named-on : nameByte b ≡ true → (k ≡ 64 → ⊥) → Named s at n (k + 1)
+    pub named-on : nameByte b ≡ true → k < 64 → Named s at n (k + 1)
     unfolding nameBytes
     named-on h m = record {
-      few = omega (arith, q .few);
+      few = omega arith;
       count = omega (arith, q .count, ap length e);
       bytes = q .bytes ∙ rw (e, h);
     }

@@ -1,8 +1,8 @@
 -- A number's digits read one by one, in the base that the definition gives them.
 -- Assumes nothing.
-use Prim.Native.Nat.{ℕ, zero, suc, _+_, _-_, _*_, _^_, _≤_, _<_}
-use mathlib.Core.Path.{_≡_, refl, _∙_, ap, sym}
-use mathlib.Core.Bool.{Bool, true, false}
+use Prim.Native.Nat.{ℕ, _+_, _-_, _*_, _^_, _≤_, _<_}
+use mathlib.Core.Path.{_≡_, refl, _∙_, ap}
+use mathlib.Core.Bool.{true, false}
 use mathlib.Core.List.{List, [], _∷_}
 use native.Mathlib.Nat.{pow-suc, pow-le-pow-right}
 use native.Mathlib.Numerals.{add-one}
@@ -10,7 +10,7 @@ use native.Mathlib.Omega.{arith}
 use borrow.Author.Tests.{le-leb, lt-leb}
 use lib.Dec.{leb}
 use lib.ListN.{length}
-use Rattle.spec.specs.Choice.{both, between}
+use Rattle.spec.specs.Choice.{between}
 use Rattle.spec.specs.Digits.{areDigits, valueFrom}
 use Rattle.spec.specs.Fields.{numberBase, numberValue, goodNumber}
 use Rattle.spec.proofs.DigitBytes.{digit-is, digit-not}
@@ -53,26 +53,26 @@ long l h = rw (lt-leb (length l) 6 h, both-false (leb 1 (length l)))
 
 module _ (s : List ℕ) (at i k v : ℕ) (q : Counted s at i k v) where
   -- a sixth digit still fits
-  pub counted-room : (k ≡ 6 → ⊥) → v < 100000
+  pub counted-room : k < 6 → v < 100000
   counted-room h =
-      let low : k ≤ 5 = omega (arith, q .few) in
+      let low : k ≤ 5 = omega arith in
       let top : 10 ^ k ≤ 10 ^ 5 = pow-le-pow-right (omega arith) low in
       omega (arith, q .small)
 
   module _ (b n : ℕ) (e : fieldAt s i ≡ b ∷ fieldAt s n) where
-    pub counted-long : k ≡ 6 → goodNumber (fieldAt s at) ≡ false
+    pub counted-long : 6 ≤ k → goodNumber (fieldAt s at) ≡ false
     counted-long h = bad-length (fieldAt s at) (long (fieldAt s at) (omega (arith, q .count, ap length e)))
 
     pub counted-not : ((48 ≤ b) × (b ≤ 57) → ⊥) → goodNumber (fieldAt s at) ≡ false
     unfolding areDigits
     counted-not h = bad-digit (fieldAt s at) (q .digits ∙ rw (e, decimal (fieldAt s at), digit-not 10 b (λ w. h (w .0, omega (arith, w .1)))))
 
-    pub counted-on : 48 ≤ b → b ≤ 57 → (k ≡ 6 → ⊥) → Counted s at n (k + 1) (v * 10 + (b - 48))
+    pub counted-on : 48 ≤ b → b ≤ 57 → k < 6 → Counted s at n (k + 1) (v * 10 + (b - 48))
     unfolding areDigits valueFrom
     counted-on low high h =
         let more : 10 ^ (k + 1) ≡ 10 ^ k * 10 = rw add-one (pow-suc 10 k) in
         record {
-          few = omega (arith, q .few);
+          few = omega arith;
           small = omega (arith, q .small);
           count = omega (arith, q .count, ap length e);
           digits = q .digits ∙ rw (e, decimal (fieldAt s at), digit-is 10 b low (omega arith));

@@ -1,14 +1,14 @@
 -- A string's text decoded step by step: a step's answer passed on, and the bytes stored so far.
 -- Assumes nothing.
-use Prim.Native.Nat.{ℕ, suc, _+_, _≤_, _<_}
+use Prim.Native.Nat.{ℕ, _+_, _≤_, _<_}
 use mathlib.Core.Path.{_≡_, refl, _∙_, ap, sym}
 use mathlib.Core.List.{List, [], _∷_, _++_, append-nil}
 use native.Mathlib.Omega.{arith}
-use native.Mathlib.Nat.{add-zero}
-use lib.ListN.{length, set, length-append, length-set}
+use lib.ListN.{length, set, length-append}
 use lib.Seq.{sets, length-sets}
 use Rattle.spec.specs.Strings.{Decoded, bad, good, emit, Mode, plain, decode}
 use Rattle.spec.proofs.FieldSteps.{after, after-emit}
+use Rattle.spec.proofs.Stores.{stored-append}
 use Rattle.fields.specs.Answers.{fieldAt}
 use Rattle.fields.specs.Steps.{TextBegins, Decodes}
 use Rattle.fields.specs.declared.TextStep.{TextStep}
@@ -20,13 +20,6 @@ pub text-on : (m k : Mode) (s : List ℕ) (at n : ℕ) (r : TextStep) → decode
 text-on m k s at n (Byte v j) e h t = (e ∙ t .0, omega arith, t .2)
 text-on m k s at n End e h t = e ∙ t
 text-on m k s at n Bad e h t = e ∙ t
-
--- one store more
-sets-last : (out l : List ℕ) (i b : ℕ) → set (sets out i l) (i + length l) b ≡ sets out i (l ++ b ∷ [])
-sets-last out [] i b = rw add-zero
-sets-last out (x ∷ l) i b =
-    let next : i + suc (length l) ≡ suc i + length l = omega arith in
-    ap (λ (j : ℕ). set (sets (set out i x) (suc i) l) j b) next ∙ sets-last (set out i x) l (suc i) b
 
 -- The `k` bytes that the text of the field at `at` stands for up to the place `i` are in the buffer.
 pub record Decoding (s : List ℕ) (at : ℕ) (out₀ out : List ℕ) (i k : ℕ) : Type 0 where
@@ -56,7 +49,7 @@ module _ (s : List ℕ) (at : ℕ) (out₀ out : List ℕ) (i k : ℕ) (q : Deco
         bytes = q .bytes ++ b ∷ [];
         read = q .read ∙ ap (after (q .bytes)) e ∙ after-emit (q .bytes) b _;
         count = length-append (q .bytes) (b ∷ []) ∙ omega (arith, q .count);
-        stored = f ∙ ap (λ (l : List ℕ). set l (0 + k) b) (q .stored) ∙ ap (λ (j : ℕ). set (sets out₀ 0 (q .bytes)) j b) place ∙ sets-last out₀ (q .bytes) 0 b;
+        stored = f ∙ ap (λ (l : List ℕ). set l (0 + k) b) (q .stored) ∙ ap (λ (j : ℕ). set (sets out₀ 0 (q .bytes)) j b) place ∙ sym (stored-append out₀ 0 (q .bytes) (b ∷ []));
       }
 
   pub decoding-done : decode plain (fieldAt s i) ≡ good [] → Decodes s at out₀ out (Good k)

@@ -1,20 +1,19 @@
 -- A line judged by the part of the database that starts after its names.
 -- Assumes nothing.
-use Prim.Native.Nat.{ℕ, _+_, _-_, _≤_, _<_}
-use mathlib.Core.Path.{_≡_, refl, _∙_, ap, sym}
-use mathlib.Core.Bool.{Bool, true, false}
-use mathlib.Core.List.{List, [], _∷_}
+use Prim.Native.Nat.{ℕ, _+_, _-_, _≤_}
+use mathlib.Core.Path.{_≡_, _∙_, ap, sym}
+use mathlib.Core.List.{List}
 use native.Mathlib.Omega.{arith}
 use native.Mathlib.Nat.{add-zero}
 use lib.ListN.{length, take, drop, length-drop}
 use lib.Seq.{take-all}
-use Rattle.spec.specs.Lists.{upto, past, holds}
+use Rattle.spec.specs.Lists.{upto, past}
 use Rattle.spec.specs.Lines.{lineAt}
-use Rattle.spec.specs.Fields.{split, size, namesOf, fieldsOf, lineSize, judge, linkTo, verdict}
+use Rattle.spec.specs.Fields.{split, size, fieldsOf, lineSize, judge, linkTo, verdict}
 use Rattle.spec.proofs.WholeLines.{part-line}
 use Rattle.spec.proofs.FieldSteps.{line-size}
 use Rattle.spec.proofs.Judging.{verdict-colon}
-use Rattle.fields.specs.Answers.{fieldAt, NamesPassed, FieldsJudged, LineJudged}
+use Rattle.fields.specs.Answers.{NamesPassed, FieldsJudged, LineJudged}
 use Rattle.fields.specs.declared.AfterNames.the-variants.{At}
 use Rattle.fields.specs.declared.Judged.the-variants.{Malformed, Ends, Links}
 use Rattle.fields.proofs.LineBounds.{line-bound, open-bound}

@@ -12,8 +12,8 @@ use Rattle.spec.specs.Fields.{goodNumber, numberValue, Reading, malformed, igno
 use Rattle.fields.specs.Answers.{fieldAt}
 use Rattle.fields.specs.declared.FieldRead.{FieldRead}
 use Rattle.fields.specs.declared.FieldRead.the-variants.{Malformed, Ignored, Link, Cancel, Flag, Number, String}
-use Rattle.fields.specs.declared.Start.{Start}
-use Rattle.fields.specs.declared.Start.the-variants.{Before, Other}
+use Rattle.fields.specs.declared.AfterStart.{AfterStart}
+use Rattle.fields.specs.declared.AfterStart.the-variants.{At, Other}
 use Rattle.fields.specs.declared.Digits.{Digits}
 use Rattle.fields.specs.declared.Digits.the-variants.{Value, Bad}
 
@@ -24,8 +24,8 @@ starts (a ∷ start) [] = false
 starts (a ∷ start) (b ∷ l) = both (eqb b a) (starts start l)
 
 -- `after_start`: the field at a place is the start and then the field at the place that it answers; or it starts otherwise.
-abbrev pub Starts : List ℕ → ℕ → List ℕ → Start → Type 0
-Starts s at start (Before n) = (fieldAt s at ≡ start ++ fieldAt s n) × (0 < length start → n ≤ length s)
+abbrev pub Starts : List ℕ → ℕ → List ℕ → AfterStart → Type 0
+Starts s at start (At n) = (fieldAt s at ≡ start ++ fieldAt s n) × (0 < length start → n ≤ length s)
 Starts s at start Other = starts start (fieldAt s at) ≡ false
 
 -- `read_digits`: the field at a place is a number's digits, with their value, or not.

@@ -29,10 +29,6 @@ ColonFound s at (After n next) =
     (holds 58 (lineAt s at) ≡ true) × (past 58 (lineAt s at) ≡ lineAt s next) × (length (fieldAt s at) ≡ n) × (at < next) × (next ≤ length s)
 ColonFound s at (Missing n) = (holds 58 (lineAt s at) ≡ false) × (length (fieldAt s at) ≡ n)
 
--- `copy_field`: the length of the field at a place; the buffer has its text from `to` on, as far as there is room.
-abbrev pub Copied : List ℕ → ℕ → List ℕ → ℕ → List ℕ → ℕ → Type 0
-Copied s at out to out′ n = (n ≡ length (fieldAt s at)) × (out′ ≡ sets out to (fieldAt s at))
-
 -- The readers of a string's text: with a mode in hand, the text of the field at a place stands for a byte and then for what the field at
 -- the place that they answer stands for; or for nothing more; or it is malformed.
 abbrev pub TextBegins : Mode → List ℕ → ℕ → TextStep → Type 0

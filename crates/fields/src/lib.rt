@@ -5,13 +5,14 @@ use lines::peek;
 ghost use Prim.Native.Nat.{_+_, _^_, _<_};
 ghost use mathlib.Core.Path.{_≡_};
 ghost use mathlib.Core.List.{_∷_};
-ghost use lib.ListN.{set};
+ghost use lib.ListN.{length, set};
+ghost use lib.Seq.{sets};
 ghost use Rattle.spec.specs.Lines.{blank, lineAt};
 ghost use Rattle.spec.specs.Refusals.{nameByte, goodName, idByte, idBytes};
 ghost use Rattle.spec.specs.Fields.{contentReading, reading, split, size as sizeOf, isIgnoredField};
 ghost use Rattle.spec.specs.Strings.{plain, slash, caret, oneDigit, twoDigits};
 ghost use Rattle.fields.specs.Answers.{fieldAt, Pieced, Reads, NamesPassed, FieldsJudged, LineJudged};
-ghost use Rattle.fields.specs.Steps.{FieldStep, ColonFound, Copied, TextBegins, Decodes};
+ghost use Rattle.fields.specs.Steps.{FieldStep, ColonFound, TextBegins, Decodes};
 ghost use Rattle.fields.specs.Judgement.{Follows, IgnoredSize, linked};
 ghost use Rattle.fields.specs.Readings.{Starts, Numbers, ReadAs, otherReading, nameReading};
 
@@ -53,6 +54,13 @@ pub enum Decoding {
     Bad,
 }
 
+// The colon that ends the field at a place: the field's length and the place after the colon; or the line ends without one, after so
+// many bytes.
+enum Colon {
+    After(usize, usize),
+    Missing(usize),
+}
+
 // A byte that a string's text stands for, and the place after what is written for it; the text's end; or a fault in it.
 enum TextStep {
     Byte(u8, usize),
@@ -60,9 +68,9 @@ enum TextStep {
     Bad,
 }
 
-// Whether a field starts with some bytes: the place after them.
-enum Start {
-    Before(usize),
+// The place after the bytes that a field starts with, or that it starts otherwise.
+enum AfterStart {
+    At(usize),
     Other,
 }
 
@@ -78,20 +86,13 @@ enum Following {
     Field(usize, usize),
 }
 
-// The size of some fields that are all ignored.
+// The size of the fields after a link, or that they are not all ignored.
 enum Rest {
     Ignored(usize),
     Other,
 }
 
 // ---- the bytes of a field
-
-// The colon that ends the field at a place: the field's length and the place after the colon; or the line ends without one, after so
-// many bytes.
-enum Colon {
-    After(usize, usize),
-    Missing(usize),
-}
 
 // The first byte of the field at a place: it ends at a colon, or with the line.
 fn field_byte(s: &[u8], at: usize) -> Step
@@ -152,7 +153,7 @@ pub fn after_names(db: &[u8], at: usize) -> AfterNames
     }
 }
 
-// Stores a byte, if there is room for it.
+// Stores a byte `k` places after `to`, if there is room for it.
 fn store(out: &mut [u8], to: usize, k: usize, b: u8)
     ensures { λ _. ⌜ now (out .exit) ≡ set (now (out .entry)) (to + k) b ⌝ }
 {
@@ -166,7 +167,7 @@ fn store(out: &mut [u8], to: usize, k: usize, b: u8)
 // Copies the text of the field at a place, joined and as written, to `out` from `to` on, and tells its length. What has no room is not
 // stored.
 pub fn copy_field(s: &[u8], at: usize, out: &mut [u8], to: usize) -> usize
-    ensures { λ r. ⌜ Copied (now (s .entry)) at (now (out .entry)) to (now (out .exit)) r ⌝ }
+    ensures { λ r. ⌜ (r ≡ length (fieldAt (now (s .entry)) at)) × (now (out .exit) ≡ sets (now (out .entry)) to (fieldAt (now (s .entry)) at)) ⌝ }
 {
     let mut i = at;
     let mut k = 0;
@@ -305,8 +306,8 @@ fn is_blank_field(s: &[u8], at: usize) -> bool
     }
 }
 
-// Whether the field at a place starts with `start`, and the place after that.
-fn after_start(s: &[u8], at: usize, start: &[u8]) -> Start
+// The place after `start`, if the field at a place starts with it.
+fn after_start(s: &[u8], at: usize, start: &[u8]) -> AfterStart
     ensures { λ r. ⌜ Starts (now (s .entry)) at (now (start .entry)) r ⌝ }
 {
     let mut i = at;
@@ -315,15 +316,15 @@ fn after_start(s: &[u8], at: usize, start: &[u8]) -> Start
         match field_byte(s, i) {
             Step::Byte(b, n) => {
                 if b != start[k] {
-                    return Start::Other;
+                    return AfterStart::Other;
                 }
                 k += 1;
                 i = n;
             }
-            Step::End => return Start::Other,
+            Step::End => return AfterStart::Other,
         }
     }
-    Start::Before(i)
+    AfterStart::At(i)
 }
 
 // A byte of a name, as in refusal 1.
@@ -423,6 +424,7 @@ fn read_digits(s: &[u8], at: usize) -> Digits
     }
 }
 
+// A byte as a number.
 fn wide(b: u8) -> u32
     ensures { λ r. ⌜ r ≡ b ⌝ }
 {
@@ -444,6 +446,7 @@ fn read_content(s: &[u8], at: usize, a: u8, b: u8) -> FieldRead
     }
 }
 
+// "`#` and 1 to 6 decimal digits (number)."
 fn read_number(s: &[u8], at: usize, a: u8, b: u8) -> FieldRead
     ensures { λ r. ⌜ ReadAs (now (s .entry)) (contentReading a b (35 ∷ fieldAt (now (s .entry)) at)) r ⌝ }
 {
@@ -453,6 +456,7 @@ fn read_number(s: &[u8], at: usize, a: u8, b: u8) -> FieldRead
     }
 }
 
+// "`=` and a text (string)": the text is decoded to no buffer, only to judge and count it.
 fn read_string(s: &[u8], at: usize, a: u8, b: u8) -> FieldRead
     ensures { λ r. ⌜ ReadAs (now (s .entry)) (contentReading a b (61 ∷ fieldAt (now (s .entry)) at)) r ⌝ }
 {
@@ -463,6 +467,7 @@ fn read_string(s: &[u8], at: usize, a: u8, b: u8) -> FieldRead
     }
 }
 
+// "`@` and nothing (cancel)."
 fn read_cancel(s: &[u8], at: usize, a: u8, b: u8) -> FieldRead
     ensures { λ r. ⌜ ReadAs (now (s .entry)) (contentReading a b (64 ∷ fieldAt (now (s .entry)) at)) r ⌝ }
 {
@@ -493,13 +498,13 @@ fn read_named(s: &[u8], at: usize) -> FieldRead
     ensures { λ r. ⌜ ReadAs (now (s .entry)) (nameReading (fieldAt (now (s .entry)) at)) r ⌝ }
 {
     match after_start(s, at, b"tc=") {
-        Start::Before(n) => {
+        AfterStart::At(n) => {
             if is_name(s, n) {
                 return FieldRead::Link(n);
             }
             FieldRead::Malformed
         }
-        Start::Other => read_capability(s, at),
+        AfterStart::Other => read_capability(s, at),
     }
 }
 
@@ -535,6 +540,7 @@ fn next_field(s: &[u8], at: usize) -> Following
     }
 }
 
+// Whether the field at a place is ignored.
 fn is_ignored(s: &[u8], at: usize) -> bool
     ensures { λ r. ⌜ r ≡ isIgnoredField (reading (fieldAt (now (s .entry)) at)) ⌝ }
 {
@@ -573,7 +579,7 @@ fn judge_after_link(s: &[u8], at: usize, name: usize, size: usize) -> Judged
     }
 }
 
-// "The field reader gets the part of the lent database that starts after a line's names": the fields of that part's first line.
+// The verdict on the fields of the first line of `s`, a part of the database that starts after a line's names.
 pub fn judge_fields(s: &[u8]) -> Judged
     ensures { λ r. ⌜ FieldsJudged (now (s .entry)) r ⌝ }
 {
@@ -592,8 +598,8 @@ pub fn judge_fields(s: &[u8]) -> Judged
     }
 }
 
-// The verdict on the line at a place: "a line without a colon" is malformed; "a line's size is its names plus 1, plus each field's length
-// plus 1".
+// The verdict on the line at a place, by the part of the database that starts after its names: "a line without a colon" is malformed; "a
+// line's size is its names plus 1, plus each field's length plus 1".
 pub fn judge_line(db: &[u8], at: usize) -> Judged
     ensures { λ r. ⌜ LineJudged (now (db .entry)) at r ⌝ }
 {

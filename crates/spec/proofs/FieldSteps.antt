@@ -1,20 +1,20 @@
 -- Names, fields and string texts as a reader meets them, byte by byte.
 -- Assumes nothing.
 use Prim.Native.Nat.{ℕ, suc, _+_, _-_, _*_, _%_, _≤_, _<_}
-use mathlib.Core.Path.{_≡_, refl, _∙_, ap}
+use mathlib.Core.Path.{_≡_, refl, ap}
 use mathlib.Core.Bool.{Bool, true, false}
 use mathlib.Core.List.{List, [], _∷_, _++_}
-use mathlib.Core.Logic.{_⊎_, inl, inr, ⊎-elim}
+use mathlib.Core.Logic.{_⊎_, inl, inr}
 use native.Mathlib.Omega.{arith}
-use borrow.Author.Tests.{eq-eqb, ne-eqb, le-leb, lt-leb, leb-true, lt-ltb, ltb-true, eqb-true, eqb-false}
-use lib.Dec.{eqb, leb, ltb}
+use borrow.Author.Tests.{eq-eqb, ne-eqb, le-leb, lt-leb, leb-true}
+use lib.Dec.{eqb, leb}
 use lib.ListN.{length, length-append}
 use Rattle.spec.specs.Choice.{pick, both, between}
 use Rattle.spec.specs.Lines.{Text, end, byte, lineText}
 use Rattle.spec.specs.Lists.{upto, holds, past}
 use Rattle.spec.proofs.DigitBytes.{digit-is, digit-not}
 use Rattle.spec.proofs.TextSteps.{line-end, line-on}
-use Rattle.spec.specs.Strings.{Decoded, bad, good, emit, Mode, plain, slash, caret, oneDigit, twoDigits, octal, escaped, control, decode}
+use Rattle.spec.specs.Strings.{Decoded, bad, good, emit, plain, slash, caret, oneDigit, twoDigits, octal, escaped, control, decode}
 use Rattle.spec.specs.Fields.{namesOf, grow, split, fieldsOf, size, lineSize}
 use Rattle.spec.proofs.FieldTexts.{line-parts}
 use Rattle.spec.proofs.Tests.{both-false}
@@ -25,10 +25,6 @@ pub field-nil : upto 58 (lineText end) ≡ []
 unfolding upto lineText
 field-nil = refl
 
-pub past-nil : past 58 (lineText end) ≡ []
-unfolding past lineText
-past-nil = refl
-
 module _ (b n : ℕ) (t : Text) where
   pub field-end : (b ≡ 10) ⊎ (b ≡ 58) → upto 58 (lineText (byte b n t)) ≡ []
   unfolding upto
@@ -38,10 +34,6 @@ module _ (b n : ℕ) (t : Text) where
   pub field-on : ((b ≡ 10) ⊎ (b ≡ 58) → ⊥) → upto 58 (lineText (byte b n t)) ≡ b ∷ upto 58 (lineText t)
   unfolding upto
   field-on h = rw (line-on b n t (λ e. h (inl e)), ne-eqb b 58 (λ e. h (inr e)))
-
-  pub past-end : b ≡ 10 → past 58 (lineText (byte b n t)) ≡ []
-  unfolding past
-  past-end e = rw (line-end b n t e)
 
   pub past-here : b ≡ 58 → past 58 (lineText (byte b n t)) ≡ lineText t
   unfolding past
@@ -107,14 +99,6 @@ pub decode-done : decode plain [] ≡ good []
 unfolding decode
 decode-done = refl
 
-pub decode-cut : (m : Mode) → (m ≡ plain → ⊥) → decode m [] ≡ bad
-unfolding decode
-decode-cut plain h = absurd (h refl)
-decode-cut slash h = refl
-decode-cut caret h = refl
-decode-cut (oneDigit v) h = refl
-decode-cut (twoDigits v) h = refl
-
 module _ (b : ℕ) (l : List ℕ) where
   pub decode-slash : b ≡ 92 → decode plain (b ∷ l) ≡ decode slash l
   unfolding decode
@@ -172,90 +156,10 @@ module _ (b : ℕ) (l : List ℕ) where
   unfolding decode
   decode-no-third v h = rw (not-octal b h)
 
--- ---- decoding a field's text at a place
-
-module _ (b n : ℕ) (t : Text) where
-  abbrev here : List ℕ
-  here = upto 58 (lineText (byte b n t))
-
-  abbrev next : List ℕ
-  next = upto 58 (lineText t)
-
-  field-either : (here ≡ []) ⊎ (here ≡ b ∷ next)
-  field-either = go (eqb b 10) refl (eqb b 58) refl
-    where
-      go : (x : Bool) → eqb b 10 ≡ x → (y : Bool) → eqb b 58 ≡ y → (here ≡ []) ⊎ (here ≡ b ∷ next)
-      go true e y f = inl (field-end b n t (inl (eqb-true b 10 e)))
-      go false e true f = inl (field-end b n t (inr (eqb-true b 58 f)))
-      go false e false f = inr (field-on b n t (λ s. ⊎-elim (eqb-false b 10 e) (eqb-false b 58 f) s))
-
-  -- a byte that is bad in a mode ends in bad, also where it ends the field
-  bad-at : (m : Mode) → (m ≡ plain → ⊥) → decode m (b ∷ next) ≡ bad → decode m here ≡ bad
-  bad-at m h e = ⊎-elim (λ s. ap (decode m) s ∙ decode-cut m h) (λ s. ap (decode m) s ∙ e) field-either
-
-  no-end : (low : ℕ) → 10 < low → low ≤ b → (b ≡ 58 → ⊥) → here ≡ b ∷ next
-  no-end low h k m = field-on b n t (λ s. ⊎-elim (λ e. omega arith) m s)
-
-  pub at-third : (v : ℕ) → 48 ≤ b → b ≤ 55 → v * 8 + (b - 48) ≤ 255 → decode (twoDigits v) here ≡ emit (v * 8 + (b - 48)) (decode plain next)
-  at-third v i j k = rw (no-end 48 (omega arith) i (omega arith)) (decode-third b next v (i, j) k)
-
-  pub at-over : (v : ℕ) → 255 < v * 8 + (b - 48) → decode (twoDigits v) here ≡ bad
-  at-over v k = bad-at (twoDigits v) (λ e. let z : _≡_ {A = ℕ} 0 1 = cc in omega arith) (decode-over b next v k)
-
-  pub at-no-third : (v : ℕ) → ((48 ≤ b) × (b ≤ 55) → ⊥) → decode (twoDigits v) here ≡ bad
-  at-no-third v h = bad-at (twoDigits v) (λ e. let z : _≡_ {A = ℕ} 0 1 = cc in omega arith) (decode-no-third b next v h)
-
-  pub at-second : (v : ℕ) → 48 ≤ b → b ≤ 55 → decode (oneDigit v) here ≡ decode (twoDigits (v * 8 + (b - 48))) next
-  at-second v i j = rw (no-end 48 (omega arith) i (omega arith)) (decode-second b next v (i, j))
-
-  pub at-no-second : (v : ℕ) → ((48 ≤ b) × (b ≤ 55) → ⊥) → decode (oneDigit v) here ≡ bad
-  at-no-second v h = bad-at (oneDigit v) (λ e. let z : _≡_ {A = ℕ} 0 1 = cc in omega arith) (decode-no-second b next v h)
-
-pub at-nothing : (m : Mode) → (m ≡ plain → ⊥) → decode m (upto 58 (lineText end)) ≡ bad
-at-nothing m h = ap (decode m) field-nil ∙ decode-cut m h
-
-module _ (b n : ℕ) (t : Text) where
-  pub at-done : (b ≡ 10) ⊎ (b ≡ 58) → decode plain (upto 58 (lineText (byte b n t))) ≡ good []
-  at-done e = ap (decode plain) (field-end b n t e) ∙ decode-done
-
-  pub at-slash : b ≡ 92 → decode plain (upto 58 (lineText (byte b n t))) ≡ decode slash (upto 58 (lineText t))
-  at-slash e = rw (no-end b n t 92 (omega arith) (omega arith) (omega arith)) (decode-slash b _ e)
-
-  pub at-caret : b ≡ 94 → decode plain (upto 58 (lineText (byte b n t))) ≡ decode caret (upto 58 (lineText t))
-  at-caret e = rw (no-end b n t 94 (omega arith) (omega arith) (omega arith)) (decode-caret b _ e)
-
-  pub at-byte : (b ≡ 58 → ⊥) → (b ≡ 92 → ⊥) → (b ≡ 94 → ⊥) → 32 ≤ b → b ≤ 126 → decode plain (upto 58 (lineText (byte b n t))) ≡ emit b (decode plain (upto 58 (lineText t)))
-  at-byte m h k i j = rw (no-end b n t 32 (omega arith) i m) (decode-byte b _ h k (i, j))
-
-  pub at-odd : ((b ≡ 10) ⊎ (b ≡ 58) → ⊥) → (b ≡ 92 → ⊥) → (b ≡ 94 → ⊥) → ((32 ≤ b) × (b ≤ 126) → ⊥) → decode plain (upto 58 (lineText (byte b n t))) ≡ bad
-  at-odd m h k i = rw (field-on b n t m) (decode-odd b _ h k i)
-
-  pub at-control : 63 ≤ b → b ≤ 126 → decode caret (upto 58 (lineText (byte b n t))) ≡ emit (control b) (decode plain (upto 58 (lineText t)))
-  at-control i j = rw (no-end b n t 63 (omega arith) i (omega arith)) (decode-control b _ (i, j))
-
-  pub at-no-control : ((63 ≤ b) × (b ≤ 126) → ⊥) → decode caret (upto 58 (lineText (byte b n t))) ≡ bad
-  at-no-control h = bad-at b n t caret (λ e. let z : _≡_ {A = ℕ} 0 1 = cc in omega arith) (decode-no-control b _ h)
-
-  pub at-first : 48 ≤ b → b ≤ 55 → decode slash (upto 58 (lineText (byte b n t))) ≡ decode (oneDigit (b - 48)) (upto 58 (lineText t))
-  at-first i j = rw (no-end b n t 48 (omega arith) i (omega arith)) (decode-first b _ (i, j))
-
-  -- a letter c of the table, whose byte is v
-  pub at-letter : (c v : ℕ) → b ≡ c → 58 < c → escaped c ≡ v → v ≤ 255 → decode slash (upto 58 (lineText (byte b n t))) ≡ emit v (decode plain (upto 58 (lineText t)))
-  at-letter c v e h f k = rw (no-end b n t 59 (omega arith) (omega arith) (omega arith)) (decode-letter b _ v (λ w. omega arith) (ap escaped e ∙ f) k)
-
-  pub at-no-letter : ((48 ≤ b) × (b ≤ 55) → ⊥) → escaped b ≡ 256 → decode slash (upto 58 (lineText (byte b n t))) ≡ bad
-  at-no-letter h e = bad-at b n t slash (λ s. let z : _≡_ {A = ℕ} 0 1 = cc in omega arith) (decode-no-letter b _ h e)
-
 pub escaped-not : (b : ℕ) → (b ≡ 69 → ⊥) → (b ≡ 110 → ⊥) → (b ≡ 114 → ⊥) → (b ≡ 116 → ⊥) → (b ≡ 98 → ⊥) → (b ≡ 102 → ⊥) → (b ≡ 94 → ⊥) → (b ≡ 92 → ⊥) → escaped b ≡ 256
 unfolding escaped
 escaped-not b e n r t b′ f h s =
     rw (ne-eqb b 69 e, ne-eqb b 110 n, ne-eqb b 114 r, ne-eqb b 116 t, ne-eqb b 98 b′, ne-eqb b 102 f, ne-eqb b 94 h, ne-eqb b 92 s)
-
-pub at-close : decode plain (upto 58 (lineText end)) ≡ good []
-at-close = ap (decode plain) field-nil ∙ decode-done
-
-pub at-control-is : (b n : ℕ) (t : Text) (v : ℕ) → 63 ≤ b → b ≤ 126 → control b ≡ v → decode caret (upto 58 (lineText (byte b n t))) ≡ emit v (decode plain (upto 58 (lineText t)))
-at-control-is b n t v i j e = at-control b n t i j ∙ ap (λ (x : ℕ). emit x (decode plain (upto 58 (lineText t)))) e
 
 pub control-127 : (b : ℕ) → b ≡ 63 → control b ≡ 127
 unfolding control

@@ -28,7 +28,7 @@ enum-known-b c = search needs
 returns : tie.Need-returns Inv-loop μ-loop
 returns c =
     let p = rw (c .before .before .b .given .1) at (c .before .before .before .before .field-byte .ensures) in
-    sym (named-long _ _ _ _ (c .before .before .before .before .before .loop .inv) _ _ (p .0) (c .if1 .taken))
+    sym (named-long _ _ _ _ (c .before .before .before .before .before .loop .inv) _ _ (p .0) (omega arith))
 
 is-name-byte-requires : tie.Need-is-name-byte-requires Inv-loop μ-loop
 is-name-byte-requires c κs = search needs
@@ -49,7 +49,7 @@ loop-less c =
 loop-again : tie.Need-loop-again Inv-loop μ-loop
 loop-again c =
     let p = rw (c .before .before .before .before .b .given .1) at (c .before .before .before .before .before .before .field-byte .ensures) in
-    named-on _ _ _ _ (c .before .before .before .before .before .before .before .loop .inv) _ _ (p .0) (sym (c .before .is-name-byte .ensures) ∙ not-false _ (c .if2 .left)) (c .before .before .if1 .left)
+    named-on _ _ _ _ (c .before .before .before .before .before .before .before .loop .inv) _ _ (p .0) (sym (c .before .is-name-byte .ensures) ∙ not-false _ (c .if2 .left)) (omega arith)
 
 enum-told : tie.Need-enum-told Inv-loop μ-loop
 enum-told c = search needs

@@ -26,11 +26,11 @@ enum-known-b c = search needs
 returns : tie.Need-returns Inv-loop μ-loop
 returns c =
     let p = rw (c .before .before .b .given .1) at (c .before .before .before .before .field-byte .ensures) in
-    counted-long _ _ _ _ _ (c .before .before .before .before .before .loop .inv) _ _ (p .0) (c .if1 .taken)
+    counted-long _ _ _ _ _ (c .before .before .before .before .before .loop .inv) _ _ (p .0) (omega arith)
 
 mul-v : tie.Need-mul-v Inv-loop μ-loop
 mul-v c =
-    let room = counted-room _ _ _ _ _ (c .before .before .before .before .before .before .before .loop .inv) (c .before .before .if1 .left) in
+    let room = counted-room _ _ _ _ _ (c .before .before .before .before .before .before .before .loop .inv) (omega arith) in
     omega arith
 
 wide-requires : tie.Need-wide-requires Inv-loop μ-loop
@@ -38,7 +38,7 @@ wide-requires c κs = search needs
 
 add-v : tie.Need-add-v Inv-loop μ-loop
 add-v c =
-    let room = counted-room _ _ _ _ _ (c .before .before .before .before .before .before .before .before .loop .inv) (c .before .before .before .if1 .left) in
+    let room = counted-room _ _ _ _ _ (c .before .before .before .before .before .before .before .before .loop .inv) (omega arith) in
     omega arith
 
 add-k : tie.Need-add-k Inv-loop μ-loop
@@ -52,7 +52,7 @@ loop-less c =
 loop-again : tie.Need-loop-again Inv-loop μ-loop
 loop-again c =
     let p = rw (c .before .before .before .before .before .b .given .1) at (c .before .before .before .before .before .before .before .field-byte .ensures) in
-    rw (c .wide .ensures) (counted-on _ _ _ _ _ (c .before .before .before .before .before .before .before .before .loop .inv) _ _ (p .0) (omega arith) (omega arith) (c .before .before .before .if1 .left))
+    rw (c .wide .ensures) (counted-on _ _ _ _ _ (c .before .before .before .before .before .before .before .before .loop .inv) _ _ (p .0) (omega arith) (omega arith) (omega arith))
 
 returns-2 : tie.Need-returns-2 Inv-loop μ-loop
 returns-2 c =
@@ -70,17 +70,17 @@ enum-told c = search needs
 returns-4 : tie.Need-returns-4 Inv-loop μ-loop
 returns-4 c =
     let p = rw (c .before .enum-told .given .1) at (c .before .before .before .field-byte .ensures) in
-    counted-empty _ _ _ _ _ (c .before .before .before .before .loop .inv) p (c .if4 .taken)
+    counted-empty _ _ _ _ _ (c .before .before .before .before .loop .inv) p (omega arith)
 
 returns-5 : tie.Need-returns-5 Inv-loop μ-loop
 returns-5 c =
     let p = rw (c .before .before .enum-told .given .1) at (c .before .before .before .before .field-byte .ensures) in
-    counted-large _ _ _ _ _ (c .before .before .before .before .before .loop .inv) p (c .if5 .taken)
+    counted-large _ _ _ _ _ (c .before .before .before .before .before .loop .inv) p (omega arith)
 
 returns-6 : tie.Need-returns-6 Inv-loop μ-loop
 returns-6 c =
     let p = rw (c .before .before .enum-told .given .1) at (c .before .before .before .before .field-byte .ensures) in
-    counted-good _ _ _ _ _ (c .before .before .before .before .before .loop .inv) p (c .before .if4 .left) (omega arith)
+    counted-good _ _ _ _ _ (c .before .before .before .before .before .loop .inv) p (λ e. omega arith) (omega arith)
 
 pub read-digits-spec : {M : Type 1} → statement M
 read-digits-spec =

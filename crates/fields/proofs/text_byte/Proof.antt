@@ -2,7 +2,6 @@
 -- Assumes nothing.
 use native.Mathlib.Omega.{arith}
 use Rattle.spec.proofs.FieldSteps as Steps
-use Rattle.spec.specs.Strings.{decode}
 use Rattle.fields.proofs.TextSteps.{text-on}
 use borrow.Author.Needs.{needs}
 use Rattle.fields.proofs.text_byte.Statement.{statement}
@@ -54,10 +53,9 @@ returns-6 c =
     (rw (p .0) (Steps.decode-byte _ _ (λ e. omega arith) (λ e. omega arith) (omega arith, omega arith)), p .1, p .2)
 
 returns-7 : tie.Need-returns-7
-unfolding decode
 returns-7 c =
     let p = rw (c .enum-told .given .1) at (c .before .before .field-byte .ensures) in
-    rw p
+    rw p Steps.decode-done
 
 pub text-byte-spec : {M : Type 1} → statement M
 text-byte-spec =
