@@ -1,6 +1,7 @@
 // The fields of a description: one field read at a place of the part of the database that starts after a line's names, and a line
 // judged by its fields.
 use lines::Step;
+use stores::put_after;
 use lines::peek;
 ghost use Prim.Native.Nat.{_+_, _^_, _<_};
 ghost use mathlib.Core.Path.{_≡_};
@@ -153,17 +154,6 @@ pub fn after_names(db: &[u8], at: usize) -> AfterNames
     }
 }
 
-// Stores a byte `k` places after `to`, if there is room for it.
-fn store(out: &mut [u8], to: usize, k: usize, b: u8)
-    ensures { λ _. ⌜ now (out .exit) ≡ set (now (out .entry)) (to + k) b ⌝ }
-{
-    if to < out.len() {
-        if k < out.len() - to {
-            out[to + k] = b;
-        }
-    }
-}
-
 // Copies the text of the field at a place, joined and as written, to `out` from `to` on, and tells its length. What has no room is not
 // stored.
 pub fn copy_field(s: &[u8], at: usize, out: &mut [u8], to: usize) -> usize
@@ -174,7 +164,7 @@ pub fn copy_field(s: &[u8], at: usize, out: &mut [u8], to: usize) -> usize
     loop {
         match field_byte(s, i) {
             Step::Byte(b, n) => {
-                store(out, to, k, b);
+                put_after(out, to, k, b);
                 k += 1;
                 i = n;
             }
@@ -278,7 +268,7 @@ pub fn decode_text(s: &[u8], at: usize, out: &mut [u8]) -> Decoding
     loop {
         match text_byte(s, i) {
             TextStep::Byte(b, n) => {
-                store(out, 0, k, b);
+                put_after(out, 0, k, b);
                 k += 1;
                 i = n;
             }

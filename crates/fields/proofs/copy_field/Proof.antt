@@ -23,8 +23,8 @@ field-byte-requires c κs = search needs
 enum-known-b : tie.Need-enum-known-b Inv-loop μ-loop
 enum-known-b c = search needs
 
-store-requires : tie.Need-store-requires Inv-loop μ-loop
-store-requires c κs = search needs
+put-after-requires : tie.Need-put-after-requires Inv-loop μ-loop
+put-after-requires c κs = search needs
 
 add-k : tie.Need-add-k Inv-loop μ-loop
 add-k c =
@@ -39,7 +39,7 @@ loop-less c =
 loop-again : tie.Need-loop-again Inv-loop μ-loop
 loop-again c =
     let p = rw (c .before .before .before .before .before .b .given .1) at (c .before .before .before .before .before .before .before .field-byte .ensures) in
-    copying-on _ _ _ _ _ _ _ (c .before .before .before .before .before .before .before .before .loop .inv) _ _ _ (p .0) (p .1) (c .before .before .store .ensures)
+    copying-on _ _ _ _ _ _ _ (c .before .before .before .before .before .before .before .before .loop .inv) _ _ _ (p .0) (p .1) (c .before .before .put-after .ensures)
 
 enum-told : tie.Need-enum-told Inv-loop μ-loop
 enum-told c = search needs
@@ -61,7 +61,7 @@ copy-field-spec =
     loop-holds
     field-byte-requires
     enum-known-b
-    store-requires
+    put-after-requires
     add-k
     loop-less
     loop-again
