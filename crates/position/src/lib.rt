@@ -22,7 +22,7 @@ const DEPTH: usize = 63;
 
 // ---- writing: a store past the buffer's end is no store, so that with an empty part of the buffer the same code only measures
 
-fn put(out: &mut [u8], at: usize, b: u8)
+pub fn put_byte(out: &mut [u8], at: usize, b: u8)
     ensures { λ _. ⌜ now (out .exit) ≡ set (now (out .entry)) at b ⌝ }
 {
     if at < out.len() {
@@ -71,7 +71,7 @@ fn write_digits(n: u16, count: usize, out: &mut [u8], at: usize)
     let mut rest = n;
     while i > 0 {
         i -= 1;
-        put(out, at + i, 48 + (rest % 10) as u8);
+        put_byte(out, at + i, 48 + (rest % 10) as u8);
         rest /= 10;
     }
 }
@@ -84,7 +84,7 @@ fn write_output(x: Output, out: &mut [u8], at: usize) -> usize
     match x {
         Output::Nothing => at,
         Output::Single(b) => {
-            put(out, at, b);
+            put_byte(out, at, b);
             at + 1
         }
         Output::Number(n, least) => {
@@ -123,7 +123,7 @@ fn plain(
     if b == b'%' {
         return percent(&command[1..], Pending::Letter, g, ps, out, at, depth);
     }
-    put(out, at, b);
+    put_byte(out, at, b);
     if depth == 0 {
         return Step::Paused(command.len() - 1, at + 1, ps);
     }

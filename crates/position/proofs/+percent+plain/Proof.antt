@@ -18,7 +18,7 @@ use Rattle.position.proofs.plain.Reads as plain
 use Rattle.position.proofs.plain.Kinds as plain-kinds
 use Rattle.position.proofs.+percent+plain.Lts-plain as plain-lts
 use Rattle.sequences.proofs.perform.Reads as perform-reads
-use Rattle.position.proofs.put.Reads as put-reads
+use Rattle.position.proofs.put_byte.Reads as put-byte-reads
 use Rattle.sequences.proofs.read_byte.Reads as read-byte-reads
 use Rattle.position.proofs.write_output.Reads as write-output-reads
 use Rattle.position.proofs.+percent+plain.{statement}
@@ -47,7 +47,7 @@ abbrev percent-claims : ℕ → percent-lts.Claims
 percent-claims t = (read-byte-reads.Asked, read-byte-reads.Learnt, percent-below t, percent.Post, perform-reads.Asked, perform-reads.Learnt, write-output-reads.Asked, write-output-reads.Learnt, plain-below t, plain.Post)
 
 abbrev plain-claims : ℕ → plain-lts.Claims
-plain-claims t = (percent-below t, percent.Post, put-reads.Asked, put-reads.Learnt, plain-below t, plain.Post)
+plain-claims t = (percent-below t, percent.Post, put-byte-reads.Asked, put-byte-reads.Learnt, plain-below t, plain.Post)
 
 -- Where a whole sequence gave its effect.
 gave : (t : ℕ) (c : percent-lts.After-effect2 (percent-claims t) (percent-at t) percent.Post)
@@ -215,8 +215,8 @@ plain-returns-2 t c =
     let short = rest-length s in
     only-read s (a .g) _ _ (a .out .now) (a .at) _ _ (c .before .before .percent .result) _ (plain-sign s (a .g) (a .ps) n (c .before .before .before .before .before .if2 .taken)) (omega arith) (c .before .before .percent .ensures)
 
-plain-put-requires : (t : ℕ) → plain-lts.Need-put-requires (plain-claims t) (plain-at t) plain.Post
-plain-put-requires t c κs = search needs
+plain-put-byte-requires : (t : ℕ) → plain-lts.Need-put-byte-requires (plain-claims t) (plain-at t) plain.Post
+plain-put-byte-requires t c κs = search needs
 
 plain-sub-t23 : (t : ℕ) → plain-lts.Need-sub-t23 (plain-claims t) (plain-at t) plain.Post
 plain-sub-t23 t c = search needs
@@ -233,7 +233,7 @@ plain-returns-3 t c =
     let s = a .command .now in
     let n = c .before .before .before .before .before .before .before .if1 .left in
     let short = rest-length s in
-    paused s (a .g) n _ (getD s 0 0 ∷ []) (a .out .now) _ (a .at) _ _ (a .ps) (plain-byte s (a .g) (a .ps) n (c .before .before .before .before .before .if2 .left)) (c .before .before .before .put .ensures) (omega arith) (omega arith)
+    paused s (a .g) n _ (getD s 0 0 ∷ []) (a .out .now) _ (a .at) _ _ (a .ps) (plain-byte s (a .g) (a .ps) n (c .before .before .before .before .before .if2 .left)) (c .before .before .before .put-byte .ensures) (omega arith) (omega arith)
 
 plain-sub-plain : (t : ℕ) → plain-lts.Need-sub-plain (plain-claims t) (plain-at t) plain.Post
 plain-sub-plain t c = search needs
@@ -262,7 +262,7 @@ plain-returns-4 t c =
     let s = a .command .now in
     let n = c .before .before .before .before .before .before .before .before .before .before .before .before .if1 .left in
     let short = rest-length s in
-    wrote s (a .g) _ _ (getD s 0 0 ∷ []) (a .out .now) _ (a .at) _ _ _ (c .before .before .plain .result) _ (plain-byte s (a .g) (a .ps) n (c .before .before .before .before .before .before .before .before .before .before .if2 .left)) (c .before .before .before .before .before .before .before .before .put .ensures) (omega arith) (omega arith) (c .before .before .plain .ensures)
+    wrote s (a .g) _ _ (getD s 0 0 ∷ []) (a .out .now) _ (a .at) _ _ _ (c .before .before .plain .result) _ (plain-byte s (a .g) (a .ps) n (c .before .before .before .before .before .before .before .before .before .before .if2 .left)) (c .before .before .before .before .before .before .before .before .put-byte .ensures) (omega arith) (omega arith) (c .before .before .plain .ensures)
 
 pub +percent+plain-spec : {M : Type 1} → statement M
 +percent+plain-spec = close μ-percent μ-plain (λ t. percent-lts.spec (percent-claims t)
@@ -308,7 +308,7 @@ pub +percent+plain-spec : {M : Type 1} → statement M
     (plain-percent-requires t)
     (plain-same-length t)
     (plain-returns-2 t)
-    (plain-put-requires t)
+    (plain-put-byte-requires t)
     (plain-sub-t23 t)
     (plain-add-t24 t)
     (plain-same-length-2 t)

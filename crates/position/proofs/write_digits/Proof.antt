@@ -19,17 +19,17 @@ loop-holds c = let a = c .before .args in spelt-none (a .out .now) (a .at) (a .n
 sub-i : tie.Need-sub-i Inv-loop μ-loop
 sub-i c = omega arith
 
-add-put : tie.Need-add-put Inv-loop μ-loop
-add-put c = omega (arith, c .before .before .loop .inv .inside)
+add-put-byte : tie.Need-add-put-byte Inv-loop μ-loop
+add-put-byte c = omega (arith, c .before .before .loop .inv .inside)
 
-cast-put : tie.Need-cast-put Inv-loop μ-loop
-cast-put c = omega arith
+cast-put-byte : tie.Need-cast-put-byte Inv-loop μ-loop
+cast-put-byte c = omega arith
 
-add-put-2 : tie.Need-add-put-2 Inv-loop μ-loop
-add-put-2 c = omega arith
+add-put-byte-2 : tie.Need-add-put-byte-2 Inv-loop μ-loop
+add-put-byte-2 c = omega arith
 
-put-requires : tie.Need-put-requires Inv-loop μ-loop
-put-requires c κs = search needs
+put-byte-requires : tie.Need-put-byte-requires Inv-loop μ-loop
+put-byte-requires c κs = search needs
 
 loop-less : tie.Need-loop-less Inv-loop μ-loop
 loop-less c = omega arith
@@ -38,7 +38,7 @@ loop-again : tie.Need-loop-again Inv-loop μ-loop
 loop-again c =
     let a = c .before .before .before .before .before .before .before .args in
     let l = c .before .before .before .before .before .loop in
-    spelt-more (a .out .now) (l .out) _ (a .at) (a .n) (a .count) (l .i) (l .i - 1) (l .rest) (l .inv) (omega arith) (c .before .before .put .ensures)
+    spelt-more (a .out .now) (l .out) _ (a .at) (a .n) (a .count) (l .i) (l .i - 1) (l .rest) (l .inv) (omega arith) (c .before .before .put-byte .ensures)
 
 same-length : tie.Need-same-length Inv-loop μ-loop
 same-length c = c .before .loop .inv .same
@@ -57,10 +57,10 @@ write-digits-spec =
     μ-loop
     loop-holds
     sub-i
-    add-put
-    cast-put
-    add-put-2
-    put-requires
+    add-put-byte
+    cast-put-byte
+    add-put-byte-2
+    put-byte-requires
     loop-less
     loop-again
     same-length

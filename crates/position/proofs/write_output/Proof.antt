@@ -12,8 +12,8 @@ enum-told c = search needs
 enum-known-x : tie.Need-enum-known-x
 enum-known-x c = search needs
 
-put-requires : tie.Need-put-requires
-put-requires c κs = search needs
+put-byte-requires : tie.Need-put-byte-requires
+put-byte-requires c κs = search needs
 
 add-result : tie.Need-add-result
 add-result c =
@@ -49,7 +49,7 @@ same-length : tie.Need-same-length
 same-length c = search needs
 
 returns-2 : tie.Need-returns-2
-returns-2 c = rw (c .before .before .before .before .before .x .given .1) (refl, c .before .before .put .ensures)
+returns-2 c = rw (c .before .before .before .before .before .x .given .1) (refl, c .before .before .put-byte .ensures)
 
 same-length-2 : tie.Need-same-length-2
 same-length-2 c = search needs
@@ -67,7 +67,7 @@ write-output-spec =
     (tie.spec
     enum-told
     enum-known-x
-    put-requires
+    put-byte-requires
     add-result
     enum-known-x-2
     digit-count-requires
