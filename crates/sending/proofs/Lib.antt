@@ -1,0 +1,5 @@
+pub mod LentTail
+pub mod Delivery
+pub mod Inputs
+pub mod Outgoing
+pub mod Appending
