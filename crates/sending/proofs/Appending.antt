@@ -6,7 +6,11 @@ use native.Mathlib.Numerals.{add-one}
 use native.Mathlib.Omega.{arith}
 use lib.ListN.{length, take, getD, set, length-append}
 use lib.Seq.{sets, length-sets, length-take-le, take-suc}
-use Rattle.spec.specs.Position.{repeated}
+use Rattle.spec.specs.Position.{compensation, repeated}
+use Rattle.spec.specs.declared.position.Parameter.{Parameter}
+use Rattle.spec.specs.declared.position.Parameter.the-variants.{Column as OfColumn}
+use Rattle.spec.specs.declared.position.Column.{Column}
+use Rattle.position.proofs.FillSteps.{is-empty, parts}
 use Rattle.position.proofs.StepLaws.{sets-append}
 use Rattle.sending.specs.Appending.{BytesAppended}
 use Rattle.sending.specs.declared.Appended.{Appended}
@@ -31,8 +35,8 @@ module _ (k l : List ℕ) (capacity : ℕ) (out : List ℕ) (at : ℕ) where
   )
   then-appended next m NoRoom o a b = rw length-append (omega (arith, a .0, b))
 
-  pub then-full : (o : List ℕ) → BytesAppended k capacity out at NoRoom o → BytesAppended (k ++ l) capacity out at NoRoom o
-  then-full o a = rw length-append (omega (arith, a))
+  pub then-full : capacity < at + length k → capacity < at + length (k ++ l)
+  then-full h = rw length-append (omega arith)
 
 -- ---- a piece several times over
 
@@ -64,11 +68,20 @@ module _ (l : List ℕ) (capacity : ℕ) (out₀ : List ℕ) (at count : ℕ) wh
       appended = rw (add-one, repeated-more) (then-appended (repeated i l) l capacity out₀ at end out (Until next) o (r .appended) a);
     }
 
-    pub repeated-full : (o : List ℕ) → i < count → BytesAppended l capacity out end NoRoom o → BytesAppended (repeated count l) capacity out₀ at NoRoom o
-    repeated-full o h a =
+    pub repeated-full : i < count → capacity < end + length l → capacity < at + length (repeated count l)
+    repeated-full h a =
         let longer : length (repeated (suc i) l) ≤ length (repeated count l) = repeated-longer (suc i) count l (omega arith) in
-        let full : capacity < at + length (repeated (suc i) l) = rw (repeated-more, length-append) (omega (arith, r .appended .0, a)) in
+        let full : capacity < at + length (repeated (suc i) l) = rw (repeated-more, length-append) (omega (arith, r .appended .0)) in
         omega arith
 
     pub repeated-all : count ≤ i → BytesAppended (repeated count l) capacity out₀ at (Until end) out
     repeated-all h = let same : i ≡ count = omega (arith, r .inside) in rw same at (r .appended)
+
+-- ---- the compensation for a column
+
+module _ (back up : List ℕ) (p : Parameter) (c : Column) (e : p ≡ OfColumn c) where
+  pub empty-back : length back ≡ 0 → compensation back up p ≡ 8 ∷ []
+  empty-back h = ap (compensation back up) e ∙ rw (is-empty back h)
+
+  pub given-back : (length back ≡ 0 → ⊥) → compensation back up p ≡ back
+  given-back h = ap (compensation back up) e ∙ rw (parts back h)

@@ -23,16 +23,16 @@ stopped x r out e = rw e (refl, refl)
 padded-length : (l : List ℕ) (n pad : ℕ) → length (l ++ replicate n pad) ≡ length l + n
 padded-length l n pad = length-append l (replicate n pad) ∙ ap (λ (x : ℕ). length l + x) (length-replicate n pad)
 
-module _ (l out : List ℕ) (n pad : ℕ) where
-  pub too-long : length out < length l + n → Gives (delivered (sends (l ++ replicate n pad)) out) (Refused NoRoom) out
+module _ (l out : List ℕ) (n pads pad : ℕ) (e : length l ≡ n) where
+  pub too-long : length out < n + pads → Gives (delivered (sends (l ++ replicate pads pad)) out) (Refused NoRoom) out
   unfolding delivered
   too-long h =
-      let k = padded-length l n pad in
-      rw (put-full (l ++ replicate n pad) (length (l ++ replicate n pad)) out (omega arith)) (refl, refl)
+      let k = padded-length l pads pad in
+      rw (put-full (l ++ replicate pads pad) (length (l ++ replicate pads pad)) out (omega arith)) (refl, refl)
 
-  pub fits : length l + n ≤ length out → (o : List ℕ) → o ≡ l ++ replicate n pad ++ drop (length l + n) out
-      → Gives (delivered (sends (l ++ replicate n pad)) out) (Count (length l + n)) o
+  pub fits : n + pads ≤ length out → (o : List ℕ) → o ≡ l ++ replicate pads pad ++ drop (n + pads) out
+      → Gives (delivered (sends (l ++ replicate pads pad)) out) (Count (n + pads)) o
   unfolding delivered
-  fits h o e =
-      let k = padded-length l n pad in
-      rw (put-fits (l ++ replicate n pad) (length (l ++ replicate n pad)) out (omega arith), k) (refl, e)
+  fits h o eo =
+      let k = padded-length l pads pad in
+      rw (put-fits (l ++ replicate pads pad) (length (l ++ replicate pads pad)) out (omega arith), k, e) (refl, eo)

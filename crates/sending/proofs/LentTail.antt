@@ -15,11 +15,11 @@ copy-suc j (x ∷ s) [] l k = absurd (not-suc-le-zero k)
 copy-suc zero (x ∷ s) (y ∷ d) l k = refl
 copy-suc (suc j) (x ∷ s) (y ∷ d) l k = ap (λ (t : List ℕ). x ∷ t) (copy-suc j s d (le-of-suc-le-suc l) (le-of-suc-le-suc k))
 
--- one more byte is copied to the front
+-- One more byte is copied to the front.
 pub copy-more : (j : ℕ) (s d : List ℕ) → j < length s → j < length d → set (take j s ++ drop j d) j (getD s j 0) ≡ take (j + 1) s ++ drop (j + 1) d
 copy-more j s d l k = rw add-one (copy-suc j s d l k)
 
--- the tail of front ++ drop n d was lent, and came back as ys ++ drop m of what it was
+-- The tail of front ++ drop n d was lent, and came back as p and then what was behind it.
 pub tail-back : (front d p : List ℕ) (n m : ℕ) → length front ≡ n → n ≤ length d
     → (let xs = front ++ drop n d in let k = length xs - n in
     let tl = take k (drop n xs) in
@@ -29,8 +29,8 @@ tail-back front d p n m e l =
     let len′ : length (drop n d) ≤ length (front ++ drop n d) - n = len in
     rw (take-at front (drop n d) n e, drop-at front (drop n d) n e, take-all _ _ len, drop-of-length-le _ len, drop-drop m n d, append-nil, append-assoc)
 
--- what the output holds after the copy and the pads: xs is the output after the copy, and ys the lent tail after the pads
-pub after-pads : (cmd out xs ys : List ℕ) (pads pad : ℕ) → length cmd ≤ length out → xs ≡ cmd ++ drop (length cmd) out
-    → ys ≡ replicate pads pad ++ drop pads (take (length xs - length cmd) (drop (length cmd) xs))
-    → putMid (length cmd) (length xs - length cmd) xs ys ≡ cmd ++ replicate pads pad ++ drop (length cmd + pads) out
-after-pads cmd out xs ys pads pad l ex ey = rw (ey, ex) (tail-back cmd out (replicate pads pad) (length cmd) pads refl l)
+-- What the buffer holds after n bytes were written and the pads after them: xs is the buffer with the bytes, and ys the lent tail with the
+-- pads.
+pub after-pads : (l out xs ys : List ℕ) (n pads pad : ℕ) → length l ≡ n → n ≤ length out → xs ≡ l ++ drop n out
+    → ys ≡ replicate pads pad ++ drop pads (take (length xs - n) (drop n xs)) → putMid n (length xs - n) xs ys ≡ l ++ replicate pads pad ++ drop (n + pads) out
+after-pads l out xs ys n pads pad e h ex ey = rw (ey, ex) (tail-back l out (replicate pads pad) n pads e h)

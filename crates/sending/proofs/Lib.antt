@@ -3,3 +3,4 @@ pub mod Delivery
 pub mod Inputs
 pub mod Outgoing
 pub mod Appending
+pub mod FillingIn

@@ -8,11 +8,20 @@ ghost use Rattle.spec.specs.Padding.{delayFor, padCount};
 ghost use Rattle.spec.specs.Position.{raisingFor, atPlace, compensation, compensationsOf, compensations, fillIn};
 ghost use Rattle.spec.specs.Sending.{goodSpeed, goodPlace, sends, delivered, sendOutcome, sendAtOutcome};
 ghost use Rattle.sending.specs.Appending.{BytesAppended, BodyFilledIn, withPads};
-
-use spec::{Refusal, Written};
-use spec::position::{Row, Column, Parameter, Used, Parameters, Raising};
-use padding::{Prefix, read_prefix, pad_count};
-use position::{BodyEnd, fill_body, put_byte};
+use padding::Prefix;
+use padding::pad_count;
+use padding::read_prefix;
+use position::BodyEnd;
+use position::fill_body;
+use position::put_byte;
+use spec::Refusal;
+use spec::Written;
+use spec::position::Column;
+use spec::position::Parameter;
+use spec::position::Parameters;
+use spec::position::Raising;
+use spec::position::Row;
+use spec::position::Used;
 
 // ---- the inputs and the pads
 

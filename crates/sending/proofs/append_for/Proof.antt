@@ -1,58 +1,66 @@
+-- `sending::append_for` meets its contract. The invariant: the compensation is appended `i` times. The measure is what is left of the count.
+-- Assumes nothing.
+use Prim.Native.Nat.{_-_}
+use mathlib.Core.Path.{_≡_, refl, _∙_}
+use native.Mathlib.Omega.{arith}
+use borrow.Author.Needs.{needs}
+use lib.ListN.{length}
+use Rattle.spec.specs.Position.{compensation}
+use Rattle.sending.proofs.Appending.{Repeated, repeated-none, repeated-again, repeated-full, repeated-all}
 use Rattle.sending.proofs.append_for.Statement.{statement}
 use Rattle.sending.proofs.append_for.Tie as tie
-use Rattle.sending.proofs.append_for.Reads as reads
-use Rattle.sending.proofs.append_for.Lts as lts
-use Rattle.sending.proofs.append_compensation.Reads as append-compensation-reads
 
 abbrev Inv-loop : tie.InvT-loop
-Inv-loop back up capacity out₀ at p count end₀ i₀ out end i = ?
+Inv-loop back up capacity out₀ at p count end₀ i₀ out end i = Repeated (compensation back up p) capacity out₀ at count out end i × (length out ≡ length out₀)
 
 abbrev μ-loop : tie.MeasureT-loop
-μ-loop back up capacity out₀ at p count end₀ i₀ out end i = ?
+μ-loop back up capacity out₀ at p count end₀ i₀ out end i = count - i
 
--- src/lib.rt:189:5
 loop-holds : tie.Need-loop-holds Inv-loop μ-loop
-loop-holds c = ?
+loop-holds c =
+    let a = c .before .before .before .args in
+    (repeated-none (compensation (a .back .now) (a .up .now) (a .u .parameter)) (a .capacity) (a .out .now) (a .at) (a .u .compensations) (c .before .before .before .pre), refl)
 
--- src/lib.rt:190:37
 append-compensation-requires : tie.Need-append-compensation-requires Inv-loop μ-loop
-append-compensation-requires c κs = ?
+append-compensation-requires c κs = omega (arith, c .before .before .loop .inv .0 .appended .1)
 
--- src/lib.rt:190:29
 enum-known-next : tie.Need-enum-known-next Inv-loop μ-loop
-enum-known-next c = ?
+enum-known-next c = search needs
 
--- src/lib.rt:191:13
 enum-told : tie.Need-enum-told Inv-loop μ-loop
-enum-told c = ?
+enum-told c = search needs
 
--- src/lib.rt:191:13
 same-length : tie.Need-same-length Inv-loop μ-loop
-same-length c = ?
+same-length c = c .before .before .before .before .append-compensation .kept .1 .1 .1 .1 .0 ∙ c .before .before .before .before .before .before .before .loop .inv .1
 
--- src/lib.rt:191:13
 returns : tie.Need-returns Inv-loop μ-loop
-returns c = ?
+returns c =
+    let a = c .before .before .before .before .before .before .before .before .before .before .before .args in
+    let l = c .before .before .before .before .before .before .before .loop in
+    let full = rw (c .enum-told .given .1) at (c .before .before .before .before .append-compensation .ensures) in
+    repeated-full (compensation (a .back .now) (a .up .now) (a .u .parameter)) (a .capacity) (a .out .now) (a .at) (a .u .compensations) (l .out) (l .end) (l .i) (l .inv .0) (omega arith) full
 
--- src/lib.rt:194:9
 add-i : tie.Need-add-i Inv-loop μ-loop
-add-i c = ?
+add-i c = omega arith
 
--- src/lib.rt:189:5
 loop-less : tie.Need-loop-less Inv-loop μ-loop
-loop-less c = ?
+loop-less c = omega arith
 
--- src/lib.rt:189:5
 loop-again : tie.Need-loop-again Inv-loop μ-loop
-loop-again c = ?
+loop-again c =
+    let a = c .before .before .before .before .before .before .before .before .before .before .before .before .args in
+    let l = c .before .before .before .before .before .before .before .before .loop in
+    let more = rw (c .before .next .given .1) at (c .before .before .before .before .before .append-compensation .ensures) in
+    (repeated-again (compensation (a .back .now) (a .up .now) (a .u .parameter)) (a .capacity) (a .out .now) (a .at) (a .u .compensations) (l .out) (l .end) (l .i) (l .inv .0) _ _ (omega arith) more, c .before .before .before .before .before .append-compensation .kept .1 .1 .1 .1 .0 ∙ l .inv .1)
 
--- src/lib.rt:174:1
 same-length-2 : tie.Need-same-length-2 Inv-loop μ-loop
-same-length-2 c = ?
+same-length-2 c = c .before .loop .inv .1
 
--- src/lib.rt:174:1
 returns-2 : tie.Need-returns-2 Inv-loop μ-loop
-returns-2 c = ?
+returns-2 c =
+    let a = c .before .before .before .before .before .args in
+    let l = c .before .loop in
+    repeated-all (compensation (a .back .now) (a .up .now) (a .u .parameter)) (a .capacity) (a .out .now) (a .at) (a .u .compensations) (l .out) (l .end) (l .i) (l .inv .0) (omega arith)
 
 pub append-for-spec : {M : Type 1} → statement M
 append-for-spec =

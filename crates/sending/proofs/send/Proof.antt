@@ -5,7 +5,7 @@ use borrow.Author.Tests.{not-true, not-false}
 use mathlib.Core.Path.{sym, _∙_}
 use Rattle.spec.specs.Sending.{sendOutcome}
 use Rattle.sending.proofs.Inputs.{speed-in-range}
-use Rattle.sending.proofs.Outgoing.{delay-small, bad-inputs, bad-prefix, good-prefix}
+use Rattle.sending.proofs.Outgoing.{delay-small, bad-speed, bad-prefix, good-prefix}
 use Rattle.sending.proofs.Delivery.{stopped}
 use Rattle.sending.proofs.send.Statement.{statement}
 use Rattle.sending.proofs.send.Tie as tie
@@ -17,7 +17,7 @@ returns : tie.Need-returns
 unfolding sendOutcome
 returns c =
     let a = c .before .before .before .before .args in
-    stopped _ _ (a .out .now) (bad-inputs (a .command .now) (a .lines) (a .speed) (a .pad) (sym (c .before .good-speed .ensures) ∙ not-true _ (c .if1 .taken)))
+    stopped _ _ (a .out .now) (bad-speed (a .command .now) (a .lines) (a .speed) (a .pad) (sym (c .before .good-speed .ensures) ∙ not-true _ (c .if1 .taken)))
 
 read-prefix-requires : tie.Need-read-prefix-requires
 read-prefix-requires c κs = search needs
@@ -48,7 +48,9 @@ sub-send-copied : tie.Need-sub-send-copied
 sub-send-copied c = (rw (c .before .before .prefix .given .1) at (c .before .before .before .before .read-prefix .ensures)) .1
 
 part-send-copied-start : tie.Need-part-send-copied-start
-part-send-copied-start c = let within = (rw (c .before .before .prefix .given .1) at (c .before .before .before .before .read-prefix .ensures)) .1 in search needs
+part-send-copied-start c =
+    let within = (rw (c .before .before .prefix .given .1) at (c .before .before .before .before .read-prefix .ensures)) .1 in
+    search needs
 
 part-send-copied-end : tie.Need-part-send-copied-end
 part-send-copied-end c = search needs

@@ -1,4 +1,5 @@
 -- `sending::send_copied` meets its contract: the tail that was lent to the pad writer comes back after the copied bytes. Assumes nothing.
+use mathlib.Core.Path.{refl}
 use native.Mathlib.Omega.{arith}
 use borrow.Author.Needs.{needs}
 use Rattle.sending.proofs.LentTail.{after-pads}
@@ -7,13 +8,17 @@ use Rattle.sending.proofs.send_copied.Statement.{statement}
 use Rattle.sending.proofs.send_copied.Tie as tie
 
 returns : tie.Need-returns
-returns c = let a = c .before .before .before .args in too-long (a .bytes .now) (a .out .now) (a .pads) (a .pad) (omega arith)
+returns c =
+    let a = c .before .before .before .args in
+    too-long (a .bytes .now) (a .out .now) _ (a .pads) (a .pad) refl (omega arith)
 
 sub-if2 : tie.Need-sub-if2
 sub-if2 c = search needs
 
 returns-2 : tie.Need-returns-2
-returns-2 c = let a = c .before .before .before .before .args in too-long (a .bytes .now) (a .out .now) (a .pads) (a .pad) (omega arith)
+returns-2 c =
+    let a = c .before .before .before .before .args in
+    too-long (a .bytes .now) (a .out .now) _ (a .pads) (a .pad) refl (omega arith)
 
 copy-front-requires : tie.Need-copy-front-requires
 copy-front-requires c κs = search needs
@@ -41,8 +46,8 @@ returns-3 c =
     let a = c .before .before .before .before .before .before .before .before .before .before .before .before .args in
     let f = c .before .before .before .before .before .before .copy-front in
     let p = c .before .before .write-pads in
-    fits (a .bytes .now) (a .out .now) (a .pads) (a .pad) (omega arith) _
-    (after-pads (a .bytes .now) (a .out .now) (f .last .1 .0) (p .last .0) (a .pads) (a .pad) (omega arith) (f .ensures) (p .ensures))
+    fits (a .bytes .now) (a .out .now) _ (a .pads) (a .pad) refl (omega arith) _
+    (after-pads (a .bytes .now) (a .out .now) (f .last .1 .0) (p .last .0) _ (a .pads) (a .pad) refl (omega arith) (f .ensures) (p .ensures))
 
 pub send-copied-spec : {M : Type 1} → statement M
 send-copied-spec =
