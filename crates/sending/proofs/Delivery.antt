@@ -20,7 +20,7 @@ pub stopped : (x : Outgoing) (r : Refusal) (out : List ℕ) → x ≡ stops r �
 unfolding delivered
 stopped x r out e = rw e (refl, refl)
 
-padded-length : (l : List ℕ) (n pad : ℕ) → length (l ++ replicate n pad) ≡ length l + n
+pub padded-length : (l : List ℕ) (n pad : ℕ) → length (l ++ replicate n pad) ≡ length l + n
 padded-length l n pad = length-append l (replicate n pad) ∙ ap (λ (x : ℕ). length l + x) (length-replicate n pad)
 
 module _ (l out : List ℕ) (n pads pad : ℕ) (e : length l ≡ n) where

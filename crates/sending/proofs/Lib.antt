@@ -4,3 +4,4 @@ pub mod Inputs
 pub mod Outgoing
 pub mod Appending
 pub mod FillingIn
+pub mod PadsReported
