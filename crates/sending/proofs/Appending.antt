@@ -12,7 +12,7 @@ use Rattle.spec.specs.declared.position.Parameter.the-variants.{Column as OfCol
 use Rattle.spec.specs.declared.position.Column.{Column}
 use Rattle.position.proofs.FillSteps.{is-empty, parts}
 use Rattle.position.proofs.StepLaws.{sets-append}
-use Rattle.sending.specs.Appending.{BytesAppended}
+use Rattle.sending.specs.Steps.{BytesAppended}
 use Rattle.sending.specs.declared.Appended.{Appended}
 use Rattle.sending.specs.declared.Appended.the-variants.{Until, NoRoom}
 

@@ -13,7 +13,7 @@ use Rattle.position.specs.Filling.{BodyFilled}
 use Rattle.position.specs.declared.BodyEnd.the-variants.{At}
 use Rattle.position.proofs.FillSteps.{is-empty}
 use Rattle.position.proofs.StepLaws.{sets-append}
-use Rattle.sending.specs.Appending.{BytesAppended, BodyFilledIn, withPads}
+use Rattle.sending.specs.Steps.{BytesAppended, BodyFilledIn, withPads}
 use Rattle.sending.specs.declared.Appended.the-variants.{Until}
 use Rattle.sending.specs.declared.FilledIn.{FilledIn}
 use Rattle.sending.specs.declared.FilledIn.the-variants.{Until as FilledUntil, NoRoom as NoRoomToFill, Fault}

@@ -1,22 +1,26 @@
--- What goes out, by the tests of the inputs and of the prefix. Assumes nothing.
-use mathlib.Core.Path.{_≡_, refl, subst}
+-- What goes out, by what the inputs and the prefix were judged to be. Assumes nothing.
+use mathlib.Core.Path.{_≡_, refl, sym, ap, subst}
 use mathlib.Core.Bool.{Bool, true, false}
 use mathlib.Core.List.{List, _++_}
 use Prim.Native.Nat.{ℕ, _-_, _≤_, _<_}
 use native.Mathlib.Omega.{arith}
 use lib.ListN.{length, take, drop, replicate, length-drop}
 use lib.Seq.{take-all}
+use Rattle.spec.specs.Choice.{pick, both}
 use Rattle.spec.specs.Padding.{Prefix, Split, prefixOf, delayFor, padCount}
-use Rattle.spec.specs.Position.{Body, body, fault, fillIn}
-use Rattle.spec.specs.Sending.{prepared, preparedAt, withBytes, sends, stops, padsOf, padded, goodSpeed, goodPlace, outgoing, outgoingAt}
+use Rattle.spec.specs.Position as Position
+use Rattle.spec.specs.Position.{body, fault, fillIn}
+use Rattle.spec.specs.Sending.{Prepared, refused, copied, withBytes, filledIn, prepared, preparedAt, sends, stops, padsOf, padded, goodSpeed, goodPlace, outgoing, outgoingAt}
 use Rattle.spec.proofs.PaddingLaws.{Splits, delay-below}
 use Rattle.padding.specs.Reading.{PrefixRead}
-use Rattle.padding.specs.declared.Prefix.the-variants.{Split as SplitAt, BadPadding as NotSplit}
-use Rattle.sending.specs.Appending.{withPads}
-use Rattle.spec.specs.declared.Refusal.the-variants.{OutOfRange, BadPadding}
+use Rattle.padding.specs.declared.Prefix.the-variants.{Split as SplitAt}
+use Rattle.sending.specs.Steps.{CommandJudged, withPads}
+use Rattle.sending.specs.declared.Judged.the-variants.{Body, Refused}
+use Rattle.spec.specs.declared.Refusal.{Refusal}
+use Rattle.spec.specs.declared.Refusal.the-variants.{OutOfRange}
 
 -- The part of a command from a place on, as `&command[from..]` has it.
-abbrev pub part : List ℕ → ℕ → List ℕ
+abbrev part : List ℕ → ℕ → List ℕ
 part s from = take (length s - from) (drop from s)
 
 part-is : (s : List ℕ) (from : ℕ) → part s from ≡ drop from s
@@ -25,47 +29,37 @@ part-is s from = let l : length (drop from s) ≤ length s - from = rw length-dr
 pub delay-small : (cmd : List ℕ) (delay : ℕ) (star : Bool) (from : ℕ) → PrefixRead cmd (SplitAt delay star from) → delay < 100000
 delay-small cmd delay star from r = subst (Splits (λ (p : Split). p .delay < 100000)) (r .0) (delay-below cmd)
 
--- ---- Send
+-- A refusal, whatever is made of a prefix that is split off.
+refusal : (f : Prefix → Prepared) → ((r : Refusal) → f (Prefix.refused r) ≡ refused r) → (cmd : List ℕ) (t : Bool) (lines speed pad : ℕ) (r : Refusal)
+    → CommandJudged cmd t lines speed (Refused r) → pick t (padded (f (prefixOf cmd)) lines speed pad) (stops OutOfRange) ≡ stops r
+refusal f k cmd true lines speed pad r j = rw (j .1, k, j .0)
+refusal f k cmd false lines speed pad r j = ap stops (sym j)
 
-module _ (cmd : List ℕ) (lines speed pad : ℕ) where
-  pub bad-speed : goodSpeed lines speed ≡ false → outgoing cmd lines speed pad ≡ stops OutOfRange
-  unfolding outgoing
-  bad-speed e = rw e
-
-  module _ (good : goodSpeed lines speed ≡ true) where
-    pub bad-prefix : PrefixRead cmd NotSplit → outgoing cmd lines speed pad ≡ stops BadPadding
-    unfolding outgoing prepared
-    bad-prefix e = rw (good, e)
-
-    pub good-prefix : (delay : ℕ) (star : Bool) (from : ℕ) → PrefixRead cmd (SplitAt delay star from) → (n : ℕ) → n ≡ padCount (delayFor delay star lines) speed
-        → outgoing cmd lines speed pad ≡ sends (part cmd from ++ replicate n pad)
-    unfolding outgoing prepared padsOf
-    good-prefix delay star from r n e = rw (good, r .0, part-is cmd from, e)
-
--- ---- Send at
-
-pads-behind : (p : Split) (t : Body) (lines speed pad : ℕ) → padded (withBytes p t) lines speed pad ≡ withPads t (padCount (delayFor (p .delay) (p .star) lines) speed) pad
+-- A body and its pads.
+pads-behind : (p : Split) (t : Position.Body) (lines speed pad : ℕ)
+    → padded (withBytes p t) lines speed pad ≡ withPads t (padCount (delayFor (p .delay) (p .star) lines) speed) pad
 unfolding padsOf
 pads-behind p (body l) lines speed pad = refl
 pads-behind p (fault r) lines speed pad = refl
 
-module _ (cmd : List ℕ) (row column : ℕ) (back up : List ℕ) (lines speed pad : ℕ) where
-  pub bad-place : goodPlace row column ≡ false → outgoingAt cmd row column back up lines speed pad ≡ stops OutOfRange
-  unfolding outgoingAt
-  bad-place e = rw e
+module _ (cmd : List ℕ) (lines speed pad : ℕ) where
+  pub send-refused : (r : Refusal) → CommandJudged cmd (goodSpeed lines speed) lines speed (Refused r) → outgoing cmd lines speed pad ≡ stops r
+  unfolding outgoing prepared
+  send-refused r j = refusal copied (λ r. refl) cmd (goodSpeed lines speed) lines speed pad r j
 
-  module _ (place : goodPlace row column ≡ true) where
-    pub bad-speed-at : goodSpeed lines speed ≡ false → outgoingAt cmd row column back up lines speed pad ≡ stops OutOfRange
-    unfolding outgoingAt
-    bad-speed-at e = rw (place, e)
+  pub send-body : (from pads : ℕ) → CommandJudged cmd (goodSpeed lines speed) lines speed (Body from pads) → outgoing cmd lines speed pad ≡ sends (part cmd from ++ replicate pads pad)
+  unfolding outgoing prepared padsOf
+  send-body from pads j = rw (j .0, j .3, part-is cmd from, j .5)
 
-    module _ (good : goodSpeed lines speed ≡ true) where
-      pub bad-prefix-at : PrefixRead cmd NotSplit → outgoingAt cmd row column back up lines speed pad ≡ stops BadPadding
-      unfolding outgoingAt preparedAt
-      bad-prefix-at e = rw (place, good, e)
+  module _ (row column : ℕ) (back up : List ℕ) where
+    pub send-at-refused : (r : Refusal) → CommandJudged cmd (both (goodPlace row column) (goodSpeed lines speed)) lines speed (Refused r)
+        → outgoingAt cmd row column back up lines speed pad ≡ stops r
+    unfolding outgoingAt preparedAt
+    send-at-refused r j = refusal (λ x. filledIn x row column back up) (λ r. refl) cmd (both (goodPlace row column) (goodSpeed lines speed)) lines speed pad r j
 
-      pub good-prefix-at : (delay : ℕ) (star : Bool) (from : ℕ) → PrefixRead cmd (SplitAt delay star from) → (n : ℕ) → n ≡ padCount (delayFor delay star lines) speed
-          → outgoingAt cmd row column back up lines speed pad ≡ withPads (fillIn (part cmd from) row column back up) n pad
-      unfolding outgoingAt preparedAt
-      good-prefix-at delay star from r n e =
-          rw (place, good, r .0, part-is cmd from, e) (pads-behind (record { delay = delay; star = star; body = drop from cmd }) (fillIn (drop from cmd) row column back up) lines speed pad)
+    pub send-at-body : (from pads : ℕ) → CommandJudged cmd (both (goodPlace row column) (goodSpeed lines speed)) lines speed (Body from pads)
+        → outgoingAt cmd row column back up lines speed pad ≡ withPads (fillIn (part cmd from) row column back up) pads pad
+    unfolding outgoingAt preparedAt
+    send-at-body from pads j =
+        rw (j .0, j .3, part-is cmd from, j .5)
+        (pads-behind (record { delay = j .1; star = j .2; body = drop from cmd }) (fillIn (drop from cmd) row column back up) lines speed pad)

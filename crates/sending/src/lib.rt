@@ -1,13 +1,15 @@
 // Send and Send at: a command's body with its padding, into a lent buffer. Nothing is written before it is known that all fits.
 ghost use mathlib.Core.Path.{_≡_};
+ghost use mathlib.Core.Bool.{true};
 ghost use mathlib.Core.List.{_++_};
 ghost use Prim.Native.Nat.{_+_, _≤_, _<_, _^_};
 ghost use lib.ListN.{length, drop, replicate};
 ghost use lib.Seq.{sets};
+ghost use Rattle.spec.specs.Choice.{both};
 ghost use Rattle.spec.specs.Padding.{delayFor, padCount};
 ghost use Rattle.spec.specs.Position.{raisingFor, atPlace, compensation, compensationsOf, compensations, fillIn};
 ghost use Rattle.spec.specs.Sending.{goodSpeed, goodPlace, sends, delivered, sendOutcome, sendAtOutcome};
-ghost use Rattle.sending.specs.Appending.{BytesAppended, BodyFilledIn, withPads};
+ghost use Rattle.sending.specs.Steps.{CommandJudged, BytesAppended, BodyFilledIn, withPads};
 use padding::Prefix;
 use padding::pad_count;
 use padding::read_prefix;
@@ -48,6 +50,15 @@ fn good_place(row: u64, column: u64) -> bool
     column <= 9999
 }
 
+fn good_inputs(row: u64, column: u64, lines: u64, speed: u64) -> bool
+    ensures { λ r. ⌜ r ≡ both (goodPlace row column) (goodSpeed lines speed) ⌝ }
+{
+    if !good_place(row, column) {
+        return false;
+    }
+    good_speed(lines, speed)
+}
+
 // "Times lines if starred."
 fn delay_for(delay: u32, star: bool, lines: u64) -> u32
     requires { ⌜ (delay < 100000) × (lines ≤ 1000) ⌝ }
@@ -64,6 +75,27 @@ fn pads_for(delay: u32, star: bool, lines: u64, speed: u64) -> usize
     ensures { λ r. ⌜ r ≡ padCount (delayFor delay star lines) speed ⌝ }
 {
     pad_count(delay_for(delay, star, lines), speed as u32) as usize
+}
+
+// A command whose inputs were judged and whose prefix was split off: the place where its body starts, and the count of its pads.
+pub enum Judged {
+    Body(usize, usize),
+    Refused(Refusal),
+}
+
+// "12 for the inputs, 13."
+fn judge(command: &[u8], in_range: bool, lines: u64, speed: u64) -> Judged
+    requires { ⌜ (in_range ≡ true → (lines ≤ 1000) × (speed ≤ 115200)) ⌝ }
+    ensures { λ r. ⌜ CommandJudged (now (command .entry)) in_range lines speed r ⌝ }
+{
+    if !in_range {
+        return Judged::Refused(Refusal::OutOfRange);
+    }
+    let prefix = read_prefix(command);
+    match prefix {
+        Prefix::BadPadding => Judged::Refused(Refusal::BadPadding),
+        Prefix::Split(delay, star, from) => Judged::Body(from, pads_for(delay, star, lines, speed)),
+    }
 }
 
 // Writes pads into the start of the room that is left.
@@ -112,16 +144,10 @@ pub fn send(command: &[u8], lines: u64, speed: u64, pad: u8, out: &mut [u8]) -> 
     ensures { λ r. ⌜ (r ≡ sendOutcome (now (command .entry)) lines speed pad (now (out .entry)) .answer)
         × (now (out .exit) ≡ sendOutcome (now (command .entry)) lines speed pad (now (out .entry)) .buffer) ⌝ }
 {
-    if !good_speed(lines, speed) {
-        return Written::Refused(Refusal::OutOfRange);
-    }
-    let prefix = read_prefix(command);
-    match prefix {
-        Prefix::BadPadding => return Written::Refused(Refusal::BadPadding),
-        Prefix::Split(delay, star, from) => {
-            let pads = pads_for(delay, star, lines, speed);
-            return send_copied(&command[from..], pads, pad, out);
-        }
+    let judged = judge(command, good_speed(lines, speed), lines, speed);
+    match judged {
+        Judged::Refused(r) => return Written::Refused(r),
+        Judged::Body(from, pads) => return send_copied(&command[from..], pads, pad, out),
     }
 }
 
@@ -335,18 +361,23 @@ pub fn send_at(
     ensures { λ r. ⌜ (r ≡ sendAtOutcome (now (command .entry)) row column (now (back .entry)) (now (up .entry)) lines speed pad (now (out .entry)) .answer)
         × (now (out .exit) ≡ sendAtOutcome (now (command .entry)) row column (now (back .entry)) (now (up .entry)) lines speed pad (now (out .entry)) .buffer) ⌝ }
 {
-    if !good_place(row, column) {
-        return Written::Refused(Refusal::OutOfRange);
-    }
-    if !good_speed(lines, speed) {
-        return Written::Refused(Refusal::OutOfRange);
-    }
-    let prefix = read_prefix(command);
-    match prefix {
-        Prefix::BadPadding => return Written::Refused(Refusal::BadPadding),
-        Prefix::Split(delay, star, from) => {
-            let pads = pads_for(delay, star, lines, speed);
-            return send_filled(&command[from..], row, column, back, up, pads, pad, out);
-        }
+    let judged = judge(
+        command,
+        good_inputs(row, column, lines, speed),
+        lines,
+        speed,
+    );
+    match judged {
+        Judged::Refused(r) => return Written::Refused(r),
+        Judged::Body(from, pads) => return send_filled(
+            &command[from..],
+            row,
+            column,
+            back,
+            up,
+            pads,
+            pad,
+            out,
+        ),
     }
 }
