@@ -98,7 +98,7 @@ fn write_output(x: Output, out: &mut [u8], at: usize) -> usize
 // ---- "plain bytes and percent sequences alternate until the command is used up"
 
 // How far the steps came: to the end, at a place and with these parameters; to a fault; or to a pause, with so many bytes left.
-pub enum Step {
+enum Step {
     Done(usize, Parameters),
     Fault(Refusal),
     Paused(usize, usize, Parameters),

@@ -78,7 +78,7 @@ fn pads_for(delay: u32, star: bool, lines: u64, speed: u64) -> usize
 }
 
 // A command whose inputs were judged and whose prefix was split off: the place where its body starts, and the count of its pads.
-pub enum Judged {
+enum Judged {
     Body(usize, usize),
     Refused(Refusal),
 }
@@ -154,7 +154,7 @@ pub fn send(command: &[u8], lines: u64, speed: u64, pad: u8, out: &mut [u8]) -> 
 // ---- Send at: body and compensations. With an empty part of the buffer they are only measured, against a capacity that is given
 
 // The place after bytes that were appended, or no room for them.
-pub enum Appended {
+enum Appended {
     Until(usize),
     NoRoom,
 }
@@ -283,7 +283,7 @@ fn at_place(row: u64, column: u64) -> Parameters
 }
 
 // A body filled in with its compensations: the place after them, no room for them, or the body's first fault.
-pub enum FilledIn {
+enum FilledIn {
     Until(usize),
     NoRoom,
     Fault(Refusal),
