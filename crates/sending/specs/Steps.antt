@@ -1,10 +1,9 @@
 -- What the steps of Send and Send at answer, by the cases of their answers.
-use Prim.Native.Nat.{ℕ, _+_, _<_, _≤_}
+use Prim.Native.Nat.{ℕ, _≤_}
 use mathlib.Core.Path.{_≡_}
 use mathlib.Core.Bool.{Bool, true}
 use mathlib.Core.List.{List, _++_}
 use lib.ListN.{length, drop, replicate}
-use lib.Seq.{sets}
 use Rattle.spec.specs.Choice.{pick}
 use Rattle.spec.specs.Padding.{split, refused, prefixOf, delayFor, padCount}
 use Rattle.spec.specs.declared.Refusal.the-variants.{OutOfRange, BadPadding}
@@ -13,10 +12,6 @@ use Rattle.spec.specs.Position as Position
 use Rattle.spec.specs.Sending.{Outgoing, sends, stops}
 use Rattle.sending.specs.declared.Judged.{Judged}
 use Rattle.sending.specs.declared.Judged.the-variants.{Body, Refused}
-use Rattle.sending.specs.declared.Appended.{Appended}
-use Rattle.sending.specs.declared.Appended.the-variants.{Until, NoRoom}
-use Rattle.sending.specs.declared.FilledIn.{FilledIn}
-use Rattle.sending.specs.declared.FilledIn.the-variants.{Until as FilledUntil, NoRoom as NoRoomToFill, Fault}
 
 -- A command and whether its inputs are in their ranges: 12, 13, or the prefix and its count of pads.
 abbrev pub CommandJudged : List ℕ → Bool → ℕ → ℕ → Judged → Type 0
@@ -29,17 +24,6 @@ CommandJudged cmd inRange lines speed (Body from pads) =
     × (pads ≡ padCount (delayFor delay star lines) speed)
 CommandJudged cmd inRange lines speed (Refused r) =
     pick inRange ((r ≡ BadPadding) × (prefixOf cmd ≡ refused BadPadding)) (r ≡ OutOfRange)
-
--- Bytes for a place of a buffer: they are written, and end within the capacity; or they would pass it.
-abbrev pub BytesAppended : List ℕ → ℕ → List ℕ → ℕ → Appended → List ℕ → Type 0
-BytesAppended l capacity out at (Until end) o = (end ≡ at + length l) × (end ≤ capacity) × (o ≡ sets out at l)
-BytesAppended l capacity out at NoRoom o = capacity < at + length l
-
--- A body with its compensations for the start of a buffer: the same, or the body has a fault.
-abbrev pub BodyFilledIn : Position.Body → ℕ → List ℕ → FilledIn → List ℕ → Type 0
-BodyFilledIn t capacity out (FilledUntil end) o = (l : List ℕ) × (t ≡ body l) × (end ≡ length l) × (end ≤ capacity) × (o ≡ sets out 0 l)
-BodyFilledIn t capacity out NoRoomToFill o = (l : List ℕ) × (t ≡ body l) × (capacity < length l)
-BodyFilledIn t capacity out (Fault r) o = t ≡ fault r
 
 -- A body and so many pads.
 abbrev pub withPads : Position.Body → ℕ → ℕ → Outgoing

@@ -2,28 +2,24 @@
 ghost use mathlib.Core.Path.{_≡_};
 ghost use mathlib.Core.Bool.{true};
 ghost use mathlib.Core.List.{_++_};
-ghost use Prim.Native.Nat.{_+_, _≤_, _<_, _^_};
+ghost use Prim.Native.Nat.{_≤_, _<_};
 ghost use lib.ListN.{length, drop, replicate};
-ghost use lib.Seq.{sets};
 ghost use Rattle.spec.specs.Choice.{both};
 ghost use Rattle.spec.specs.Padding.{delayFor, padCount};
-ghost use Rattle.spec.specs.Position.{raisingFor, atPlace, compensation, compensationsOf, compensations, fillIn};
+ghost use Rattle.spec.specs.Position.{atPlace, fillIn};
 ghost use Rattle.spec.specs.Sending.{goodSpeed, goodPlace, sends, delivered, sendOutcome, sendAtOutcome};
-ghost use Rattle.sending.specs.Steps.{CommandJudged, BytesAppended, BodyFilledIn, withPads};
+ghost use Rattle.sending.specs.Steps.{CommandJudged, withPads};
+use compensations::FilledIn;
+use compensations::fill_in;
 use padding::Prefix;
 use padding::pad_count;
 use padding::read_prefix;
-use position::BodyEnd;
-use position::fill_body;
-use position::put_byte;
 use spec::Refusal;
 use spec::Written;
 use spec::position::Column;
 use spec::position::Parameter;
 use spec::position::Parameters;
-use spec::position::Raising;
 use spec::position::Row;
-use spec::position::Used;
 
 // ---- the inputs and the pads
 
@@ -151,125 +147,7 @@ pub fn send(command: &[u8], lines: u64, speed: u64, pad: u8, out: &mut [u8]) -> 
     }
 }
 
-// ---- Send at: body and compensations. With an empty part of the buffer they are only measured, against a capacity that is given
-
-// The place after bytes that were appended, or no room for them.
-enum Appended {
-    Until(usize),
-    NoRoom,
-}
-
-fn copy_at(bytes: &[u8], out: &mut [u8], at: usize)
-    requires { ⌜ at + length (now bytes) < 2 ^ 64 ⌝ }
-    ensures { λ _. ⌜ now (out .exit) ≡ sets (now (out .entry)) at (now (bytes .entry)) ⌝ }
-{
-    let mut i = 0;
-    while i < bytes.len() {
-        put_byte(out, at + i, bytes[i]);
-        i += 1;
-    }
-}
-
-fn append(bytes: &[u8], capacity: usize, out: &mut [u8], at: usize) -> Appended
-    requires { ⌜ at ≤ capacity ⌝ }
-    ensures { λ r. ⌜ BytesAppended (now (bytes .entry)) capacity (now (out .entry)) at r (now (out .exit)) ⌝ }
-{
-    let n = bytes.len();
-    if n > capacity - at {
-        return Appended::NoRoom;
-    }
-    copy_at(bytes, out, at);
-    Appended::Until(at + n)
-}
-
-// "Back string for a column, up string for a row, taken as they stand ... Only back empty: byte 8 stands for it."
-fn append_compensation(
-    p: Parameter,
-    back: &[u8],
-    up: &[u8],
-    capacity: usize,
-    out: &mut [u8],
-    at: usize,
-) -> Appended
-    requires { ⌜ at ≤ capacity ⌝ }
-    ensures { λ r. ⌜ BytesAppended (compensation (now (back .entry)) (now (up .entry)) p) capacity (now (out .entry)) at r (now (out .exit)) ⌝ }
-{
-    match p {
-        Parameter::Row(r) => append(up, capacity, out, at),
-        Parameter::Column(c) => {
-            if back.len() == 0 {
-                return append(b"\x08", capacity, out, at);
-            }
-            append(back, capacity, out, at)
-        }
-    }
-}
-
-// The compensations of one used parameter.
-fn append_for(
-    u: Used,
-    back: &[u8],
-    up: &[u8],
-    capacity: usize,
-    out: &mut [u8],
-    at: usize,
-) -> Appended
-    requires { ⌜ at ≤ capacity ⌝ }
-    ensures { λ r. ⌜ BytesAppended (compensationsOf (now (back .entry)) (now (up .entry)) u) capacity (now (out .entry)) at r (now (out .exit)) ⌝ }
-{
-    let p = u.parameter;
-    let count = u.compensations;
-    let mut end = at;
-    let mut i = 0;
-    while i < count {
-        let Appended::Until(next) = append_compensation(p, back, up, capacity, out, end) else {
-            return Appended::NoRoom;
-        };
-        end = next;
-        i += 1;
-    }
-    Appended::Until(end)
-}
-
-// "In the order of the raised bytes."
-fn append_compensations(
-    ps: Parameters,
-    back: &[u8],
-    up: &[u8],
-    capacity: usize,
-    out: &mut [u8],
-    at: usize,
-) -> Appended
-    requires { ⌜ at ≤ capacity ⌝ }
-    ensures { λ r. ⌜ BytesAppended (compensations (now (back .entry)) (now (up .entry)) ps) capacity (now (out .entry)) at r (now (out .exit)) ⌝ }
-{
-    match ps {
-        Parameters::TwoUnused(p, q) => Appended::Until(at),
-        Parameters::OneUnused(u, p) => append_for(u, back, up, capacity, out, at),
-        Parameters::AllUsed(u, v) => {
-            let Appended::Until(next) = append_for(u, back, up, capacity, out, at) else {
-                return Appended::NoRoom;
-            };
-            append_for(v, back, up, capacity, out, next)
-        }
-    }
-}
-
-// "Both strings empty: off. ... Only up empty: rows aren't raised."
-fn raising_for(back: &[u8], up: &[u8]) -> Raising
-    ensures { λ r. ⌜ r ≡ raisingFor (now (back .entry)) (now (up .entry)) ⌝ }
-{
-    if up.len() != 0 {
-        return Raising {
-            rows: true,
-            columns: true,
-        };
-    }
-    Raising {
-        rows: false,
-        columns: back.len() != 0,
-    }
-}
+// ---- Send at
 
 // "Row is the first parameter, column the second."
 fn at_place(row: u64, column: u64) -> Parameters
@@ -280,40 +158,6 @@ fn at_place(row: u64, column: u64) -> Parameters
         Parameter::Row(Row(32768 + row as u16)),
         Parameter::Column(Column(32768 + column as u16)),
     )
-}
-
-// A body filled in with its compensations: the place after them, no room for them, or the body's first fault.
-enum FilledIn {
-    Until(usize),
-    NoRoom,
-    Fault(Refusal),
-}
-
-fn fill_in(
-    body: &[u8],
-    row: u64,
-    column: u64,
-    back: &[u8],
-    up: &[u8],
-    capacity: usize,
-    out: &mut [u8],
-) -> FilledIn
-    requires { ⌜ (row ≤ 9999) × (column ≤ 9999) ⌝ }
-    ensures { λ r. ⌜ BodyFilledIn (fillIn (now (body .entry)) row column (now (back .entry)) (now (up .entry))) capacity (now (out .entry)) r (now (out .exit)) ⌝ }
-{
-    let end = fill_body(body, raising_for(back, up), at_place(row, column), out);
-    match end {
-        BodyEnd::Refused(r) => return FilledIn::Fault(r),
-        BodyEnd::At(n, ps) => {
-            if n > capacity {
-                return FilledIn::NoRoom;
-            }
-            let Appended::Until(total) = append_compensations(ps, back, up, capacity, out, n) else {
-                return FilledIn::NoRoom;
-            };
-            return FilledIn::Until(total);
-        }
-    }
 }
 
 // Measures with an empty part of the buffer; writes only once all is known to fit.
@@ -332,7 +176,8 @@ fn send_filled(
         × (now (out .exit) ≡ delivered (withPads (fillIn (now (body .entry)) row column (now (back .entry)) (now (up .entry))) pads pad) (now (out .entry)) .buffer) ⌝ }
 {
     let capacity = out.len();
-    let measured = fill_in(body, row, column, back, up, capacity, &mut out[0..0]);
+    let first = at_place(row, column);
+    let measured = fill_in(body, first, back, up, capacity, &mut out[0..0]);
     match measured {
         FilledIn::Fault(r) => return Written::Refused(r),
         FilledIn::NoRoom => return Written::Refused(Refusal::NoRoom),
@@ -340,7 +185,7 @@ fn send_filled(
             if pads > capacity - n {
                 return Written::Refused(Refusal::NoRoom);
             }
-            let filled = fill_in(body, row, column, back, up, capacity, out);
+            let filled = fill_in(body, first, back, up, capacity, out);
             write_pads(&mut out[n..], pads, pad);
             return Written::Count(n + pads);
         }

@@ -1,4 +1,4 @@
--- `sending::raising_for` meets its contract, by the cases of the two strings. Assumes nothing.
+-- `compensations::raising_for` meets its contract, by the cases of the two strings. Assumes nothing.
 use Prim.Native.Nat.{ℕ}
 use mathlib.Core.Path.{_≡_, refl}
 use mathlib.Core.Bool.{true, false, not}
@@ -9,8 +9,8 @@ use lib.Dec.{eqb}
 use lib.ListN.{length}
 use Rattle.spec.specs.Position.{raisingFor}
 use Rattle.spec.specs.declared.position.Raising.{Raising}
-use Rattle.sending.proofs.raising_for.Statement.{statement}
-use Rattle.sending.proofs.raising_for.Tie as tie
+use Rattle.compensations.proofs.raising_for.Statement.{statement}
+use Rattle.compensations.proofs.raising_for.Tie as tie
 
 with-up : (back up : List ℕ) → (length up ≡ 0 → ⊥) → _≡_ {A = Raising} (record { rows = true; columns = true }) (raisingFor back up)
 with-up back [] n = absurd (n refl)

@@ -1,4 +1,4 @@
--- `sending::copy_at` meets its contract. The invariant: the first `i` bytes are stored. The measure is what is left of them. Assumes
+-- `compensations::copy_at` meets its contract. The invariant: the first `i` bytes are stored. The measure is what is left of them. Assumes
 -- nothing.
 use Prim.Native.Nat.{_≤_, _-_}
 use mathlib.Core.Path.{_≡_, refl, _∙_, ap}
@@ -6,9 +6,9 @@ use native.Mathlib.Omega.{arith}
 use borrow.Author.Needs.{needs}
 use lib.ListN.{length, take}
 use lib.Seq.{sets, take-length}
-use Rattle.sending.proofs.Appending.{copied-more}
-use Rattle.sending.proofs.copy_at.Statement.{statement}
-use Rattle.sending.proofs.copy_at.Tie as tie
+use Rattle.compensations.proofs.Appending.{copied-more}
+use Rattle.compensations.proofs.copy_at.Statement.{statement}
+use Rattle.compensations.proofs.copy_at.Tie as tie
 
 abbrev Inv-loop : tie.InvT-loop
 Inv-loop bytes out₀ at i₀ out i = (i ≤ length bytes) × (out ≡ sets out₀ at (take i bytes)) × (length out ≡ length out₀)

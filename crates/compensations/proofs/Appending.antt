@@ -12,9 +12,9 @@ use Rattle.spec.specs.declared.position.Parameter.the-variants.{Column as OfCol
 use Rattle.spec.specs.declared.position.Column.{Column}
 use Rattle.position.proofs.FillSteps.{is-empty, parts}
 use Rattle.position.proofs.StepLaws.{sets-append}
-use Rattle.sending.specs.Steps.{BytesAppended}
-use Rattle.sending.specs.declared.Appended.{Appended}
-use Rattle.sending.specs.declared.Appended.the-variants.{Until, NoRoom}
+use Rattle.compensations.specs.Appending.{BytesAppended}
+use Rattle.compensations.specs.declared.Appended.{Appended}
+use Rattle.compensations.specs.declared.Appended.the-variants.{Until, NoRoom}
 
 pub copied-more : (s out : List ℕ) (at i : ℕ) → i < length s → set (sets out at (take i s)) (at + i) (getD s i 0) ≡ sets out at (take (i + 1) s)
 copied-more s out at i h =

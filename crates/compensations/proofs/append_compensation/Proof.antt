@@ -1,8 +1,8 @@
--- `sending::append_compensation` meets its contract, by the axis and, for a column, by whether the back string is empty. Assumes nothing.
-use Rattle.sending.proofs.Appending.{empty-back, given-back}
+-- `compensations::append_compensation` meets its contract, by the axis and, for a column, by whether the back string is empty. Assumes nothing.
+use Rattle.compensations.proofs.Appending.{empty-back, given-back}
 use borrow.Author.Needs.{needs}
-use Rattle.sending.proofs.append_compensation.Statement.{statement}
-use Rattle.sending.proofs.append_compensation.Tie as tie
+use Rattle.compensations.proofs.append_compensation.Statement.{statement}
+use Rattle.compensations.proofs.append_compensation.Tie as tie
 
 enum-known-p : tie.Need-enum-known-p
 enum-known-p c = search needs

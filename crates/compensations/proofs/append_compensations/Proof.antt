@@ -1,11 +1,11 @@
--- `sending::append_compensations` meets its contract, by the cases of the parameters. Assumes nothing.
+-- `compensations::append_compensations` meets its contract, by the cases of the parameters. Assumes nothing.
 use borrow.Author.Needs.{needs}
 use native.Mathlib.Omega.{arith}
 use mathlib.Core.Path.{refl}
 use Rattle.spec.specs.Position.{compensations, compensationsOf}
-use Rattle.sending.proofs.Appending.{then-appended, then-full}
-use Rattle.sending.proofs.append_compensations.Statement.{statement}
-use Rattle.sending.proofs.append_compensations.Tie as tie
+use Rattle.compensations.proofs.Appending.{then-appended, then-full}
+use Rattle.compensations.proofs.append_compensations.Statement.{statement}
+use Rattle.compensations.proofs.append_compensations.Tie as tie
 
 enum-known-ps : tie.Need-enum-known-ps
 enum-known-ps c = search needs

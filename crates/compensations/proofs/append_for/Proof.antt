@@ -1,4 +1,4 @@
--- `sending::append_for` meets its contract. The invariant: the compensation is appended `i` times. The measure is what is left of the count.
+-- `compensations::append_for` meets its contract. The invariant: the compensation is appended `i` times. The measure is what is left of the count.
 -- Assumes nothing.
 use Prim.Native.Nat.{_-_}
 use mathlib.Core.Path.{_≡_, refl, _∙_}
@@ -6,9 +6,9 @@ use native.Mathlib.Omega.{arith}
 use borrow.Author.Needs.{needs}
 use lib.ListN.{length}
 use Rattle.spec.specs.Position.{compensation}
-use Rattle.sending.proofs.Appending.{Repeated, repeated-none, repeated-again, repeated-full, repeated-all}
-use Rattle.sending.proofs.append_for.Statement.{statement}
-use Rattle.sending.proofs.append_for.Tie as tie
+use Rattle.compensations.proofs.Appending.{Repeated, repeated-none, repeated-again, repeated-full, repeated-all}
+use Rattle.compensations.proofs.append_for.Statement.{statement}
+use Rattle.compensations.proofs.append_for.Tie as tie
 
 abbrev Inv-loop : tie.InvT-loop
 Inv-loop back up capacity out₀ at p count end₀ i₀ out end i = Repeated (compensation back up p) capacity out₀ at count out end i × (length out ≡ length out₀)
