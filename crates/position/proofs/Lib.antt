@@ -1,0 +1,5 @@
+pub mod FillSteps
+pub mod OutputSizes
+pub mod DigitWriting
+pub mod StepLaws
+pub mod OuterLoop

@@ -1,0 +1,195 @@
+// Filling in a position: a command's body for two parameters, into a lent buffer.
+ghost use mathlib.Core.Path.{_≡_};
+ghost use Prim.Native.Nat.{_+_, _<_, _^_};
+ghost use lib.ListN.{length, set};
+ghost use lib.Seq.{sets};
+ghost use Rattle.spec.specs.Digits.{spell, Fewest};
+ghost use Rattle.spec.specs.Sequences.{outputBytes};
+ghost use Rattle.spec.specs.Position.{plainOf, percentOf};
+ghost use Rattle.position.specs.Filling.{plainBound, percentBound, StepTaken, BodyFilled};
+use sequences::perform;
+use sequences::read_byte;
+use spec::Refusal;
+use spec::position::Effect;
+use spec::position::Output;
+use spec::position::Parameters;
+use spec::position::Pending;
+use spec::position::Progress;
+use spec::position::Raising;
+
+// How deep the plain step and the percent step may call each other, so that the stack does not grow with the command.
+const DEPTH: usize = 63;
+
+// ---- writing: a store past the buffer's end is no store, so that with an empty part of the buffer the same code only measures
+
+pub fn put_byte(out: &mut [u8], at: usize, b: u8)
+    ensures { λ _. ⌜ now (out .exit) ≡ set (now (out .entry)) at b ⌝ }
+{
+    if at < out.len() {
+        out[at] = b;
+    }
+}
+
+// How many digits a number has; none for 0.
+fn digits_in(n: u16) -> usize
+    ensures { λ r. ⌜ Fewest 10 0 n r ⌝ }
+{
+    if n == 0 {
+        return 0;
+    }
+    if n < 10 {
+        return 1;
+    }
+    if n < 100 {
+        return 2;
+    }
+    if n < 1000 {
+        return 3;
+    }
+    if n < 10000 {
+        return 4;
+    }
+    5
+}
+
+fn digit_count(n: u16, least: u8) -> usize
+    ensures { λ r. ⌜ Fewest 10 least n r ⌝ }
+{
+    let d = digits_in(n);
+    if d < least as usize {
+        return least as usize;
+    }
+    d
+}
+
+// A number in `count` digits, from the last one on.
+fn write_digits(n: u16, count: usize, out: &mut [u8], at: usize)
+    requires { ⌜ (at + count < 2 ^ 64) × (n < 10 ^ count) ⌝ }
+    ensures { λ _. ⌜ now (out .exit) ≡ sets (now (out .entry)) at (spell 10 count n) ⌝ }
+{
+    let mut i = count;
+    let mut rest = n;
+    while i > 0 {
+        i -= 1;
+        put_byte(out, at + i, 48 + (rest % 10) as u8);
+        rest /= 10;
+    }
+}
+
+// Writes what a sequence writes, and answers the place after it.
+fn write_output(x: Output, out: &mut [u8], at: usize) -> usize
+    requires { ⌜ at + length (outputBytes x) < 2 ^ 64 ⌝ }
+    ensures { λ r. ⌜ (r ≡ at + length (outputBytes x)) × (now (out .exit) ≡ sets (now (out .entry)) at (outputBytes x)) ⌝ }
+{
+    match x {
+        Output::Nothing => at,
+        Output::Single(b) => {
+            put_byte(out, at, b);
+            at + 1
+        }
+        Output::Number(n, least) => {
+            let count = digit_count(n, least);
+            write_digits(n, count, out, at);
+            at + count
+        }
+    }
+}
+
+// ---- "plain bytes and percent sequences alternate until the command is used up"
+
+// How far the steps came: to the end, at a place and with these parameters; to a fault; or to a pause, with so many bytes left.
+enum Step {
+    Done(usize, Parameters),
+    Fault(Refusal),
+    Paused(usize, usize, Parameters),
+}
+
+// Where a plain byte or a percent sign is due.
+fn plain(
+    command: &[u8],
+    g: Raising,
+    ps: Parameters,
+    out: &mut [u8],
+    at: usize,
+    depth: usize,
+) -> Step
+    requires { ⌜ plainBound (now command) ps at < 2 ^ 64 ⌝ }
+    ensures { λ r. ⌜ StepTaken (now (command .entry)) g (plainOf (now (command .entry)) g ps) (now (out .entry)) at (plainBound (now (command .entry)) ps at) r (now (out .exit)) ⌝ }
+{
+    if command.len() == 0 {
+        return Step::Done(at, ps);
+    }
+    let b = command[0];
+    if b == b'%' {
+        return percent(&command[1..], Pending::Letter, g, ps, out, at, depth);
+    }
+    put_byte(out, at, b);
+    if depth == 0 {
+        return Step::Paused(command.len() - 1, at + 1, ps);
+    }
+    plain(&command[1..], g, ps, out, at + 1, depth - 1)
+}
+
+// Within a percent sequence, of which so much is still to be read.
+fn percent(
+    command: &[u8],
+    pending: Pending,
+    g: Raising,
+    ps: Parameters,
+    out: &mut [u8],
+    at: usize,
+    depth: usize,
+) -> Step
+    requires { ⌜ percentBound (now command) ps at < 2 ^ 64 ⌝ }
+    ensures { λ r. ⌜ StepTaken (now (command .entry)) g (percentOf (now (command .entry)) pending g ps) (now (out .entry)) at (percentBound (now (command .entry)) ps at) r (now (out .exit)) ⌝ }
+{
+    if command.len() == 0 {
+        return Step::Fault(Refusal::UnknownSequence);
+    }
+    let progress = read_byte(pending, command[0]);
+    match progress {
+        Progress::More(next) => return percent(&command[1..], next, g, ps, out, at, depth),
+        Progress::Unknown => return Step::Fault(Refusal::UnknownSequence),
+        Progress::Whole(sequence) => {
+            let effect = perform(g, sequence, ps);
+            match effect {
+                Effect::Refused(r) => return Step::Fault(r),
+                Effect::Gives(x, qs) => {
+                    let end = write_output(x, out, at);
+                    if depth == 0 {
+                        return Step::Paused(command.len() - 1, end, qs);
+                    }
+                    return plain(&command[1..], g, qs, out, end, depth - 1);
+                }
+            }
+        }
+    }
+}
+
+// A body filled in: the place after its bytes, and the parameters as it leaves them; or its first fault.
+pub enum BodyEnd {
+    At(usize, Parameters),
+    Refused(Refusal),
+}
+
+// Fills a body in from the start of the buffer on; with an empty part of it, only measures.
+pub fn fill_body(command: &[u8], g: Raising, first: Parameters, out: &mut [u8]) -> BodyEnd
+    ensures { λ r. ⌜ BodyFilled (plainOf (now (command .entry)) g first) (now (out .entry)) r (now (out .exit)) ⌝ }
+{
+    let mut left = command.len();
+    let mut at = 0;
+    let mut ps = first;
+    loop {
+        let from = command.len() - left;
+        let step = plain(&command[from..], g, ps, out, at, DEPTH);
+        match step {
+            Step::Done(end, qs) => return BodyEnd::At(end, qs),
+            Step::Fault(r) => return BodyEnd::Refused(r),
+            Step::Paused(l, end, qs) => {
+                left = l;
+                at = end;
+                ps = qs;
+            }
+        }
+    }
+}

@@ -1,0 +1,6 @@
+pub mod LentTail
+pub mod Delivery
+pub mod Inputs
+pub mod Outgoing
+pub mod TwoPasses
+pub mod PadsReported

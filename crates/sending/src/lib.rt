@@ -1,0 +1,228 @@
+// Send and Send at: a command's body with its padding, into a lent buffer. Nothing is written before it is known that all fits.
+ghost use mathlib.Core.Path.{_≡_};
+ghost use mathlib.Core.Bool.{true};
+ghost use mathlib.Core.List.{_++_};
+ghost use Prim.Native.Nat.{_≤_, _<_};
+ghost use lib.ListN.{length, drop, replicate};
+ghost use Rattle.spec.specs.Choice.{both};
+ghost use Rattle.spec.specs.Padding.{delayFor, padCount};
+ghost use Rattle.spec.specs.Position.{atPlace, fillIn};
+ghost use Rattle.spec.specs.Sending.{goodSpeed, goodPlace, sends, delivered, sendOutcome, sendAtOutcome};
+ghost use Rattle.sending.specs.Steps.{CommandJudged, withPads};
+use compensations::FilledIn;
+use compensations::fill_in;
+use padding::Prefix;
+use padding::pad_count;
+use padding::read_prefix;
+use spec::Refusal;
+use spec::Written;
+use spec::position::Column;
+use spec::position::Parameter;
+use spec::position::Parameters;
+use spec::position::Row;
+
+// ---- the inputs and the pads
+
+// "Lines 1..1,000, speed 0..115,200 bits a second, else 12."
+fn good_speed(lines: u64, speed: u64) -> bool
+    ensures { λ r. ⌜ r ≡ goodSpeed lines speed ⌝ }
+{
+    if lines < 1 {
+        return false;
+    }
+    if lines > 1000 {
+        return false;
+    }
+    speed <= 115200
+}
+
+// Row and column "each 0..9,999".
+fn good_place(row: u64, column: u64) -> bool
+    ensures { λ r. ⌜ r ≡ goodPlace row column ⌝ }
+{
+    if row > 9999 {
+        return false;
+    }
+    column <= 9999
+}
+
+fn good_inputs(row: u64, column: u64, lines: u64, speed: u64) -> bool
+    ensures { λ r. ⌜ r ≡ both (goodPlace row column) (goodSpeed lines speed) ⌝ }
+{
+    if !good_place(row, column) {
+        return false;
+    }
+    good_speed(lines, speed)
+}
+
+// "Times lines if starred."
+fn delay_for(delay: u32, star: bool, lines: u64) -> u32
+    requires { ⌜ (delay < 100000) × (lines ≤ 1000) ⌝ }
+    ensures { λ r. ⌜ r ≡ delayFor delay star lines ⌝ }
+{
+    if star {
+        return delay * lines as u32;
+    }
+    delay
+}
+
+fn pads_for(delay: u32, star: bool, lines: u64, speed: u64) -> usize
+    requires { ⌜ (delay < 100000) × (lines ≤ 1000) × (speed ≤ 115200) ⌝ }
+    ensures { λ r. ⌜ r ≡ padCount (delayFor delay star lines) speed ⌝ }
+{
+    pad_count(delay_for(delay, star, lines), speed as u32) as usize
+}
+
+// A command whose inputs were judged and whose prefix was split off: the place where its body starts, and the count of its pads.
+enum Judged {
+    Body(usize, usize),
+    Refused(Refusal),
+}
+
+// "12 for the inputs, 13."
+fn judge(command: &[u8], in_range: bool, lines: u64, speed: u64) -> Judged
+    requires { ⌜ (in_range ≡ true → (lines ≤ 1000) × (speed ≤ 115200)) ⌝ }
+    ensures { λ r. ⌜ CommandJudged (now (command .entry)) in_range lines speed r ⌝ }
+{
+    if !in_range {
+        return Judged::Refused(Refusal::OutOfRange);
+    }
+    let prefix = read_prefix(command);
+    match prefix {
+        Prefix::BadPadding => Judged::Refused(Refusal::BadPadding),
+        Prefix::Split(delay, star, from) => Judged::Body(from, pads_for(delay, star, lines, speed)),
+    }
+}
+
+// Writes pads into the start of the room that is left.
+fn write_pads(room: &mut [u8], count: usize, pad: u8)
+    requires { ⌜ count ≤ length (now room) ⌝ }
+    ensures { λ _. ⌜ now (room .exit) ≡ replicate count pad ++ drop count (now (room .entry)) ⌝ }
+{
+    let mut i = 0;
+    while i < count {
+        room[i] = pad;
+        i += 1;
+    }
+}
+
+// ---- Send
+
+fn copy_front(bytes: &[u8], out: &mut [u8])
+    requires { ⌜ length (now bytes) ≤ length (now out) ⌝ }
+    ensures { λ _. ⌜ now (out .exit) ≡ now (bytes .entry) ++ drop (length (now (bytes .entry))) (now (out .entry)) ⌝ }
+{
+    let mut i = 0;
+    while i < bytes.len() {
+        out[i] = bytes[i];
+        i += 1;
+    }
+}
+
+// "Send copies percent signs unchanged."
+fn send_copied(bytes: &[u8], pads: usize, pad: u8, out: &mut [u8]) -> Written
+    ensures { λ r. ⌜ (r ≡ delivered (sends (now (bytes .entry) ++ replicate pads pad)) (now (out .entry)) .answer)
+        × (now (out .exit) ≡ delivered (sends (now (bytes .entry) ++ replicate pads pad)) (now (out .entry)) .buffer) ⌝ }
+{
+    let n = bytes.len();
+    if n > out.len() {
+        return Written::Refused(Refusal::NoRoom);
+    }
+    if pads > out.len() - n {
+        return Written::Refused(Refusal::NoRoom);
+    }
+    copy_front(bytes, out);
+    write_pads(&mut out[n..], pads, pad);
+    Written::Count(n + pads)
+}
+
+pub fn send(command: &[u8], lines: u64, speed: u64, pad: u8, out: &mut [u8]) -> Written
+    ensures { λ r. ⌜ (r ≡ sendOutcome (now (command .entry)) lines speed pad (now (out .entry)) .answer)
+        × (now (out .exit) ≡ sendOutcome (now (command .entry)) lines speed pad (now (out .entry)) .buffer) ⌝ }
+{
+    let judged = judge(command, good_speed(lines, speed), lines, speed);
+    match judged {
+        Judged::Refused(r) => return Written::Refused(r),
+        Judged::Body(from, pads) => return send_copied(&command[from..], pads, pad, out),
+    }
+}
+
+// ---- Send at
+
+// "Row is the first parameter, column the second."
+fn at_place(row: u64, column: u64) -> Parameters
+    requires { ⌜ (row ≤ 9999) × (column ≤ 9999) ⌝ }
+    ensures { λ r. ⌜ r ≡ atPlace row column ⌝ }
+{
+    Parameters::TwoUnused(
+        Parameter::Row(Row(32768 + row as u16)),
+        Parameter::Column(Column(32768 + column as u16)),
+    )
+}
+
+// Measures with an empty part of the buffer; writes only once all is known to fit.
+fn send_filled(
+    body: &[u8],
+    row: u64,
+    column: u64,
+    back: &[u8],
+    up: &[u8],
+    pads: usize,
+    pad: u8,
+    out: &mut [u8],
+) -> Written
+    requires { ⌜ (row ≤ 9999) × (column ≤ 9999) ⌝ }
+    ensures { λ r. ⌜ (r ≡ delivered (withPads (fillIn (now (body .entry)) row column (now (back .entry)) (now (up .entry))) pads pad) (now (out .entry)) .answer)
+        × (now (out .exit) ≡ delivered (withPads (fillIn (now (body .entry)) row column (now (back .entry)) (now (up .entry))) pads pad) (now (out .entry)) .buffer) ⌝ }
+{
+    let capacity = out.len();
+    let first = at_place(row, column);
+    let measured = fill_in(body, first, back, up, capacity, &mut out[0..0]);
+    match measured {
+        FilledIn::Fault(r) => return Written::Refused(r),
+        FilledIn::NoRoom => return Written::Refused(Refusal::NoRoom),
+        FilledIn::Until(n) => {
+            if pads > capacity - n {
+                return Written::Refused(Refusal::NoRoom);
+            }
+            let filled = fill_in(body, first, back, up, capacity, out);
+            write_pads(&mut out[n..], pads, pad);
+            return Written::Count(n + pads);
+        }
+    }
+}
+
+pub fn send_at(
+    command: &[u8],
+    row: u64,
+    column: u64,
+    back: &[u8],
+    up: &[u8],
+    lines: u64,
+    speed: u64,
+    pad: u8,
+    out: &mut [u8],
+) -> Written
+    ensures { λ r. ⌜ (r ≡ sendAtOutcome (now (command .entry)) row column (now (back .entry)) (now (up .entry)) lines speed pad (now (out .entry)) .answer)
+        × (now (out .exit) ≡ sendAtOutcome (now (command .entry)) row column (now (back .entry)) (now (up .entry)) lines speed pad (now (out .entry)) .buffer) ⌝ }
+{
+    let judged = judge(
+        command,
+        good_inputs(row, column, lines, speed),
+        lines,
+        speed,
+    );
+    match judged {
+        Judged::Refused(r) => return Written::Refused(r),
+        Judged::Body(from, pads) => return send_filled(
+            &command[from..],
+            row,
+            column,
+            back,
+            up,
+            pads,
+            pad,
+            out,
+        ),
+    }
+}
