@@ -1,8 +1,8 @@
 // The fields of a description: one field read at a place of the part of the database that starts after a line's names, and a line
 // judged by its fields.
 use lines::Step;
-use stores::put_after;
 use lines::peek;
+use stores::put_after;
 ghost use Prim.Native.Nat.{_+_, _^_, _<_};
 ghost use mathlib.Core.Path.{_≡_};
 ghost use mathlib.Core.List.{_∷_};

@@ -1,0 +1,150 @@
+// The library as C and Rust call it: the operations of document 01, each with its result as a number. A slice passes as a pointer and a
+// length.
+use listing::flat;
+use listing::list;
+use questions::flag;
+use questions::number;
+use questions::show_part;
+use questions::string;
+use sending::send;
+use sending::send_at;
+use spec::Answer;
+use spec::Shown;
+use spec::Written;
+ghost use mathlib.Core.Path.{_≡_};
+ghost use Rattle.spec.specs.Questions.{showAnswer, flagAnswer, numberAnswer, stringOutcome};
+ghost use Rattle.spec.specs.Listing.{listOutcome, flatOutcome};
+ghost use Rattle.spec.specs.Sending.{sendOutcome, sendAtOutcome};
+ghost use Rattle.termcap.specs.Results.{answerResult, answerValue, writtenResult, writtenCount, shownResult, shownStart, shownLength};
+
+// The result of a question; a value is stored if it is present.
+fn give_answer(a: Answer, value: &mut u64) -> u32
+    ensures { λ r. ⌜ (r ≡ answerResult a) × (now (value .exit) ≡ answerValue a (now (value .entry))) ⌝ }
+{
+    match a {
+        Answer::Present(v) => {
+            *value = v as u64;
+            0
+        }
+        Answer::Absent => 255,
+        Answer::Refused(r) => r.number() as u32,
+    }
+}
+
+// The result of an operation with output; the count is stored if it is accepted.
+fn give_count(w: Written, count: &mut u64) -> u32
+    ensures { λ r. ⌜ (r ≡ writtenResult w) × (now (count .exit) ≡ writtenCount w (now (count .entry))) ⌝ }
+{
+    match w {
+        Written::Count(n) => {
+            *count = n as u64;
+            0
+        }
+        Written::Refused(r) => r.number() as u32,
+    }
+}
+
+// "The part of the caller's database that holds the first description with that name."
+#[no_mangle]
+pub extern "C" fn termcap_show(db: &[u8], name: &[u8], start: &mut u64, length: &mut u64) -> u32
+    ensures { λ r. ⌜ (r ≡ shownResult (showAnswer (now (db .entry)) (now (name .entry))))
+        × (now (start .exit) ≡ shownStart (showAnswer (now (db .entry)) (now (name .entry))) (now (start .entry)))
+        × (now (length .exit) ≡ shownLength (showAnswer (now (db .entry)) (now (name .entry))) (now (length .entry))) ⌝ }
+{
+    match show_part(db, name) {
+        Shown::Part(from, to) => {
+            *start = from as u64;
+            *length = (to - from) as u64;
+            0
+        }
+        Shown::Refused(r) => r.number() as u32,
+    }
+}
+
+#[no_mangle]
+pub extern "C" fn termcap_flag(db: &[u8], name: &[u8], id: &[u8], value: &mut u64) -> u32
+    ensures { λ r. ⌜ (r ≡ answerResult (flagAnswer (now (db .entry)) (now (name .entry)) (now (id .entry))))
+        × (now (value .exit) ≡ answerValue (flagAnswer (now (db .entry)) (now (name .entry)) (now (id .entry))) (now (value .entry))) ⌝ }
+{
+    give_answer(flag(db, name, id), value)
+}
+
+#[no_mangle]
+pub extern "C" fn termcap_number(db: &[u8], name: &[u8], id: &[u8], value: &mut u64) -> u32
+    ensures { λ r. ⌜ (r ≡ answerResult (numberAnswer (now (db .entry)) (now (name .entry)) (now (id .entry))))
+        × (now (value .exit) ≡ answerValue (numberAnswer (now (db .entry)) (now (name .entry)) (now (id .entry))) (now (value .entry))) ⌝ }
+{
+    give_answer(number(db, name, id), value)
+}
+
+#[no_mangle]
+pub extern "C" fn termcap_string(
+    db: &[u8],
+    name: &[u8],
+    id: &[u8],
+    out: &mut [u8],
+    count: &mut u64,
+) -> u32
+    ensures { λ r. ⌜ (r ≡ answerResult (stringOutcome (now (db .entry)) (now (name .entry)) (now (id .entry)) (now (out .entry)) .answer))
+        × (now (out .exit) ≡ stringOutcome (now (db .entry)) (now (name .entry)) (now (id .entry)) (now (out .entry)) .buffer)
+        × (now (count .exit) ≡ answerValue (stringOutcome (now (db .entry)) (now (name .entry)) (now (id .entry)) (now (out .entry)) .answer) (now (count .entry))) ⌝ }
+{
+    give_answer(string(db, name, id, out), count)
+}
+
+#[no_mangle]
+pub extern "C" fn termcap_list(db: &[u8], name: &[u8], out: &mut [u8], records: &mut u64) -> u32
+    ensures { λ r. ⌜ (r ≡ writtenResult (listOutcome (now (db .entry)) (now (name .entry)) (now (out .entry)) .answer))
+        × (now (out .exit) ≡ listOutcome (now (db .entry)) (now (name .entry)) (now (out .entry)) .buffer)
+        × (now (records .exit) ≡ writtenCount (listOutcome (now (db .entry)) (now (name .entry)) (now (out .entry)) .answer) (now (records .entry))) ⌝ }
+{
+    give_count(list(db, name, out), records)
+}
+
+#[no_mangle]
+pub extern "C" fn termcap_flat(db: &[u8], name: &[u8], out: &mut [u8], count: &mut u64) -> u32
+    ensures { λ r. ⌜ (r ≡ writtenResult (flatOutcome (now (db .entry)) (now (name .entry)) (now (out .entry)) .answer))
+        × (now (out .exit) ≡ flatOutcome (now (db .entry)) (now (name .entry)) (now (out .entry)) .buffer)
+        × (now (count .exit) ≡ writtenCount (flatOutcome (now (db .entry)) (now (name .entry)) (now (out .entry)) .answer) (now (count .entry))) ⌝ }
+{
+    give_count(flat(db, name, out), count)
+}
+
+#[no_mangle]
+pub extern "C" fn termcap_send(
+    command: &[u8],
+    lines: u64,
+    speed: u64,
+    pad: u8,
+    out: &mut [u8],
+    count: &mut u64,
+) -> u32
+    ensures { λ r. ⌜ (r ≡ writtenResult (sendOutcome (now (command .entry)) lines speed pad (now (out .entry)) .answer))
+        × (now (out .exit) ≡ sendOutcome (now (command .entry)) lines speed pad (now (out .entry)) .buffer)
+        × (now (count .exit) ≡ writtenCount (sendOutcome (now (command .entry)) lines speed pad (now (out .entry)) .answer) (now (count .entry))) ⌝ }
+{
+    give_count(send(command, lines, speed, pad, out), count)
+}
+
+#[no_mangle]
+pub extern "C" fn termcap_send_at(
+    command: &[u8],
+    row: u64,
+    column: u64,
+    back: &[u8],
+    up: &[u8],
+    lines: u64,
+    speed: u64,
+    pad: u8,
+    out: &mut [u8],
+    count: &mut u64,
+) -> u32
+    ensures { λ r. ⌜ (r ≡ writtenResult (sendAtOutcome (now (command .entry)) row column (now (back .entry)) (now (up .entry)) lines speed pad (now (out .entry)) .answer))
+        × (now (out .exit) ≡ sendAtOutcome (now (command .entry)) row column (now (back .entry)) (now (up .entry)) lines speed pad (now (out .entry)) .buffer)
+        × (now (count .exit) ≡ writtenCount (sendAtOutcome (now (command .entry)) row column (now (back .entry)) (now (up .entry)) lines speed pad (now (out .entry)) .answer) (now (count .entry))) ⌝ }
+{
+    give_count(
+        send_at(command, row, column, back, up, lines, speed, pad, out),
+        count,
+    )
+}
