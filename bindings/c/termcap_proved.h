@@ -1,0 +1,165 @@
+/*
+ * termcap_proved.h: the C side of the static library libtermcap.a.
+ *
+ * Slices. A slice passes as a pointer and a length in bytes. Pointers must be valid for that length
+ * and must not be null; an empty slice, too, needs a pointer that is not null. `out` and the numbers
+ * must not overlap each other or any input. The library keeps no pointer after a call, and names and
+ * ids need no closing zero byte.
+ *
+ * Results. Every function returns TERMCAP_OK (accepted, or present), TERMCAP_ABSENT, or a refusal
+ * number. With any result but TERMCAP_OK no byte of `out` and none of the numbers changes. With
+ * TERMCAP_OK the bytes of `out` past those reported stay as they were.
+ *
+ * Order of refusals: 1, 2, 3, then the walk (4 to 8), then 9. At each step of the walk: find the line
+ * (4 for the first, else 5), then 7, then the 33rd description (8), then 6, then the size (8), then
+ * the next link. Send and Send at: 12 for the inputs, 13, then faults from left to right through the
+ * body (10 to 12), then 9.
+ */
+#ifndef TERMCAP_PROVED_H
+#define TERMCAP_PROVED_H
+
+#include <stddef.h>
+#include <stdint.h>
+
+#ifdef __cplusplus
+extern "C" {
+#endif
+
+/* Accepted, or present. */
+#define TERMCAP_OK 0u
+/* The capability is absent: no refusal, and nothing is written. */
+#define TERMCAP_ABSENT 255u
+
+/* The asked name is not 1 to 64 bytes, or has a byte outside 32..126 or one of | : \ in it. */
+#define TERMCAP_BAD_NAME 1u
+/* The id is not two bytes 33..126, has a colon or a backslash, starts with a point, or is "tc". */
+#define TERMCAP_BAD_ID 2u
+/* The database is over 1,048,576 bytes. */
+#define TERMCAP_DATABASE_TOO_LARGE 3u
+/* No description has the asked name. */
+#define TERMCAP_NO_DESCRIPTION 4u
+/* A link's name is found nowhere. */
+#define TERMCAP_LOST_LINK 5u
+/* A description in the chain is malformed. */
+#define TERMCAP_MALFORMED 6u
+/* A link leads to a line already in the chain. */
+#define TERMCAP_CYCLE 7u
+/* A 33rd description is reached, or the chain's size passes 16,384. */
+#define TERMCAP_CHAIN_TOO_LARGE 8u
+/* The output doesn't fit the lent buffer. */
+#define TERMCAP_NO_ROOM 9u
+/* An unknown, or cut off, percent sequence. */
+#define TERMCAP_BAD_PERCENT 10u
+/* Too few unused parameters. */
+#define TERMCAP_TOO_FEW_PARAMETERS 11u
+/* A number out of its range. */
+#define TERMCAP_OUT_OF_RANGE 12u
+/* Padding with over 4 digits before the point, or over one after it. */
+#define TERMCAP_BAD_PADDING 13u
+
+/* Bytes of one record of termcap_list. */
+#define TERMCAP_RECORD_BYTES 8u
+/* With buffers of these sizes termcap_list, termcap_flat and termcap_string never give 9. */
+#define TERMCAP_LIST_BYTES 43680u
+#define TERMCAP_FLAT_BYTES 16385u
+#define TERMCAP_STRING_BYTES 16384u
+
+/* The kinds in a record. */
+#define TERMCAP_KIND_FLAG 1u
+#define TERMCAP_KIND_NUMBER 2u
+#define TERMCAP_KIND_STRING 3u
+
+/*
+ * Show: the part of the database that holds the first description with that name, unjoined, from
+ * just after the newline that ends the line before it (or from the start), up to but not including
+ * its closing newline (or to the end). It looks at names only, not at fields or links.
+ *
+ * TERMCAP_OK: *start is the place of the part in `db`, *length its bytes.
+ * Refusals: 1, 3, 4.
+ */
+uint32_t termcap_show(const uint8_t *db, size_t db_len, const uint8_t *name, size_t name_len,
+                      uint64_t *start, uint64_t *length);
+
+/*
+ * Flag: whether the terminal has the flag.
+ *
+ * TERMCAP_OK: present, *value is 1. TERMCAP_ABSENT: not present.
+ * Refusals: 1 to 8.
+ */
+uint32_t termcap_flag(const uint8_t *db, size_t db_len, const uint8_t *name, size_t name_len,
+                      const uint8_t *id, size_t id_len, uint64_t *value);
+
+/*
+ * Number: the terminal's number, at most 65,535.
+ *
+ * TERMCAP_OK: present, *value is the number. TERMCAP_ABSENT: not present.
+ * Refusals: 1 to 8.
+ */
+uint32_t termcap_number(const uint8_t *db, size_t db_len, const uint8_t *name, size_t name_len,
+                        const uint8_t *id, size_t id_len, uint64_t *value);
+
+/*
+ * String: the terminal's string, decoded. Its padding prefix, if any, is still in front; the decoded
+ * bytes are the command that termcap_send and termcap_send_at take.
+ *
+ * TERMCAP_OK: present, the first *count bytes of `out` are the decoded bytes. TERMCAP_ABSENT: not
+ * present, whatever the size of `out`.
+ * Refusals: 1 to 9.
+ */
+uint32_t termcap_string(const uint8_t *db, size_t db_len, const uint8_t *name, size_t name_len,
+                        const uint8_t *id, size_t id_len, uint8_t *out, size_t out_len,
+                        uint64_t *count);
+
+/*
+ * List: one record of TERMCAP_RECORD_BYTES for each live pair of name and kind, in the order of the
+ * winning fields, without a header. A record is: two name bytes; kind; place of the description in
+ * the chain from 0; a 32-bit value, high byte first (1, the number, or the decoded length).
+ *
+ * TERMCAP_OK: *records is the number of records, written to the first 8 * *records bytes of `out`.
+ * Refusals: 1, 3 to 9.
+ */
+uint32_t termcap_list(const uint8_t *db, size_t db_len, const uint8_t *name, size_t name_len,
+                      uint8_t *out, size_t out_len, uint64_t *records);
+
+/*
+ * Flat: the resolved terminal as one line: the first line's names, a colon, then each winning field
+ * as written (joined) with a colon, then a newline. As a database of its own it gives the same
+ * answers.
+ *
+ * TERMCAP_OK: the first *count bytes of `out` are the line, its newline included.
+ * Refusals: 1, 3 to 9.
+ */
+uint32_t termcap_flat(const uint8_t *db, size_t db_len, const uint8_t *name, size_t name_len,
+                      uint8_t *out, size_t out_len, uint64_t *count);
+
+/*
+ * Send: the body of a decoded command and its padding. Percent signs are copied unchanged. The
+ * padding prefix is digits, then maybe a point and a digit, then maybe a star; it is milliseconds,
+ * times `lines` if starred. At `speed` bits a second, ten bits a byte, that many bytes `pad` are
+ * appended, rounded up.
+ *
+ * TERMCAP_OK: the first *count bytes of `out` are the body, then the pads.
+ * Refusals: 9, 12 (`lines` outside 1..1,000 or `speed` over 115,200), 13.
+ */
+uint32_t termcap_send(const uint8_t *command, size_t command_len, uint64_t lines, uint64_t speed,
+                      uint8_t pad, uint8_t *out, size_t out_len, uint64_t *count);
+
+/*
+ * Send at: as Send, with the position filled into the body. `row` and `column` count from 0, up to
+ * 9,999. Where a byte of the position would be 0, 9 or 10 it is raised by one, and after the body
+ * follows `back` for a column and `up` for a row, as they stand. Both empty: nothing is raised. Only
+ * `back` empty: byte 8 stands for it. Only `up` empty: rows aren't raised.
+ *
+ * TERMCAP_OK: the first *count bytes of `out` are the body, the compensations, then the pads.
+ * Refusals: 9 to 13.
+ */
+uint32_t termcap_send_at(const uint8_t *command, size_t command_len, uint64_t row, uint64_t column,
+                         const uint8_t *back, size_t back_len, const uint8_t *up, size_t up_len,
+                         uint64_t lines, uint64_t speed, uint8_t pad, uint8_t *out, size_t out_len,
+                         uint64_t *count);
+
+#ifdef __cplusplus
+}
+#endif
+
+#endif

@@ -1,0 +1,373 @@
+//! Safe Rust over the proved termcap library.
+//!
+//! A [`Database`] is a view of the bytes of a termcap file. Its methods answer what a terminal can
+//! do; [`send`] and [`send_at`] turn a decoded string into the bytes for the line, padding included.
+//!
+//! ```
+//! use termcap_proved::{send_at, Database, Line, Position};
+//!
+//! # fn main() -> Result<(), termcap_proved::Refusal> {
+//! let file = br"vt100|dec vt100:am:co#80:le=^H:cm=5\E[%i%d;%dH:";
+//! let database = Database::new(file);
+//!
+//! assert!(database.flag("vt100", "am")?);
+//! assert_eq!(database.number("vt100", "co")?, Some(80));
+//!
+//! let move_cursor = database.string("vt100", "cm")?.expect("vt100 has it");
+//! let position = Position { row: 20, column: 58, ..Position::default() };
+//! let line = Line { speed: 1200, ..Line::default() };
+//! assert_eq!(send_at(move_cursor, &position, &line)?, b"\x1B[21;59H\0");
+//! # Ok(())
+//! # }
+//! ```
+//!
+//! A function that returns a `Vec` never refuses with [`Refusal::NoRoom`]. Its twin in `_into`
+//! writes to a buffer of the caller, allocates nothing, and leaves every byte of that buffer past
+//! those it reports as it was; on a refusal, and where a string is absent, it leaves the whole
+//! buffer as it was.
+//!
+//! # Panics
+//!
+//! No function panics with a library that keeps its contract.
+
+#![deny(unsafe_code)]
+
+mod record;
+mod refusal;
+#[allow(unsafe_code)]
+mod sys;
+
+pub use record::{Kind, Record};
+pub use refusal::{NotARefusal, Refusal};
+
+/// The most bytes a decoded string has: it is no longer than its field, and a chain's size is at
+/// most 16,384.
+pub const STRING_BYTES: usize = 16_384;
+/// The most records a terminal has: flags, three bytes each with the colon, in a chain of 16,384.
+pub const RECORDS: usize = 5_460;
+/// The most bytes Flat has: a chain's size and a newline.
+pub const FLAT_BYTES: usize = 16_385;
+/// The most pads a command asks for: `9999.9*`, 1,000 lines, 115,200 bits a second.
+pub const PADS: usize = 115_198_848;
+
+const OK: u32 = 0;
+const ABSENT: u32 = 255;
+
+/// The answer to a question: `None` is absent.
+fn present<T>(result: u32, value: T) -> Result<Option<T>, Refusal> {
+    match result {
+        ABSENT => Ok(None),
+        _ => accepted(result, value).map(Some),
+    }
+}
+
+fn accepted<T>(result: u32, value: T) -> Result<T, Refusal> {
+    match result {
+        OK => Ok(value),
+        _ => Err(Refusal::try_from(result).expect("the library gives no other result")),
+    }
+}
+
+/// A place or a count within a slice, which a `usize` holds.
+fn size(count: u64) -> usize {
+    usize::try_from(count).expect("the library reports no more bytes than it was lent")
+}
+
+/// A termcap database: the bytes of a file, lent by the caller.
+///
+/// Nothing is read ahead; every question is answered from the bytes themselves. The methods take
+/// names and ids as anything that gives bytes, such as `"vt100"`, `b"vt100"` or a `Vec<u8>`.
+#[derive(Clone, Copy, Debug)]
+pub struct Database<'a> {
+    bytes: &'a [u8],
+}
+
+impl<'a> Database<'a> {
+    /// A view of these bytes. Nothing is refused here; a database that is too large, or damaged
+    /// where a question leads, is refused with that question.
+    pub fn new(bytes: &'a [u8]) -> Database<'a> {
+        Database { bytes }
+    }
+
+    /// The lent bytes.
+    pub fn as_bytes(&self) -> &'a [u8] {
+        self.bytes
+    }
+
+    /// The part of the database that holds the first description with that name, as it stands
+    /// there, without its closing newline. Only names are looked at, not fields or links.
+    ///
+    /// ```
+    /// # use termcap_proved::Database;
+    /// let database = Database::new(b"# presses\npress-1|press-2:am:\\\n\t:tc=hall:\n");
+    /// assert_eq!(database.show("press-2"), Ok(&b"press-1|press-2:am:\\\n\t:tc=hall:"[..]));
+    /// ```
+    pub fn show(&self, name: impl AsRef<[u8]>) -> Result<&'a [u8], Refusal> {
+        let (mut start, mut length) = (0, 0);
+        let result = sys::show(self.bytes, name.as_ref(), &mut start, &mut length);
+        accepted(result, ())?;
+        let start = size(start);
+        Ok(&self.bytes[start..start + size(length)])
+    }
+
+    /// Whether the terminal has this flag.
+    ///
+    /// ```
+    /// # use termcap_proved::{Database, Refusal};
+    /// let database = Database::new(b"oven:am:\nkiln:am@:tc=oven:\n");
+    /// assert_eq!(database.flag("oven", "am"), Ok(true));
+    /// assert_eq!(database.flag("kiln", "am"), Ok(false));
+    /// assert_eq!(database.flag("press", "am"), Err(Refusal::NoDescription));
+    /// ```
+    pub fn flag(&self, name: impl AsRef<[u8]>, id: impl AsRef<[u8]>) -> Result<bool, Refusal> {
+        let mut value = 0;
+        let result = sys::flag(self.bytes, name.as_ref(), id.as_ref(), &mut value);
+        Ok(present(result, value)?.is_some())
+    }
+
+    /// The terminal's number, at most 65,535, or `None` if it is absent.
+    ///
+    /// ```
+    /// # use termcap_proved::Database;
+    /// let database = Database::new(b"oven:co#20:li#4:\n");
+    /// assert_eq!(database.number("oven", "co"), Ok(Some(20)));
+    /// assert_eq!(database.number("oven", "it"), Ok(None));
+    /// ```
+    pub fn number(
+        &self,
+        name: impl AsRef<[u8]>,
+        id: impl AsRef<[u8]>,
+    ) -> Result<Option<u32>, Refusal> {
+        let mut value = 0;
+        let result = sys::number(self.bytes, name.as_ref(), id.as_ref(), &mut value);
+        let number = present(result, value)?;
+        Ok(number.map(|value| u32::try_from(value).expect("a number is at most 65,535")))
+    }
+
+    /// The terminal's string, decoded, or `None` if it is absent. A padding prefix is still in
+    /// front of it: the bytes are a command for [`send`] or [`send_at`].
+    ///
+    /// ```
+    /// # use termcap_proved::Database;
+    /// let database = Database::new(br"oven:cl=50\E[H\E[J:");
+    /// assert_eq!(database.string("oven", "cl"), Ok(Some(b"50\x1B[H\x1B[J".to_vec())));
+    /// assert_eq!(database.string("oven", "ho"), Ok(None));
+    /// ```
+    pub fn string(
+        &self,
+        name: impl AsRef<[u8]>,
+        id: impl AsRef<[u8]>,
+    ) -> Result<Option<Vec<u8>>, Refusal> {
+        let mut out = vec![0; STRING_BYTES];
+        let count = self.string_into(name, id, &mut out)?;
+        Ok(count.map(|count| {
+            out.truncate(count);
+            out.shrink_to_fit();
+            out
+        }))
+    }
+
+    /// Writes the decoded string to the start of `out` and gives the number of its bytes, or `None`
+    /// if it is absent. [`STRING_BYTES`] are always enough.
+    ///
+    /// ```
+    /// # use termcap_proved::{Database, Refusal};
+    /// let database = Database::new(br"oven:ho=\E[H:");
+    /// let mut out = *b"....";
+    /// assert_eq!(database.string_into("oven", "ho", &mut out[..2]), Err(Refusal::NoRoom));
+    /// assert_eq!(&out, b"....");
+    /// assert_eq!(database.string_into("oven", "ho", &mut out), Ok(Some(3)));
+    /// assert_eq!(&out, b"\x1B[H.");
+    /// ```
+    pub fn string_into(
+        &self,
+        name: impl AsRef<[u8]>,
+        id: impl AsRef<[u8]>,
+        out: &mut [u8],
+    ) -> Result<Option<usize>, Refusal> {
+        let mut count = 0;
+        let result = sys::string(self.bytes, name.as_ref(), id.as_ref(), out, &mut count);
+        Ok(present(result, count)?.map(size))
+    }
+
+    /// One record for each capability the terminal has, in the order of the winning fields.
+    ///
+    /// ```
+    /// # use termcap_proved::{Database, Kind, Record};
+    /// let database = Database::new(b"kiln:am:tc=oven:\noven:co#20:\n");
+    /// let am = Record { name: *b"am", kind: Kind::Flag, place: 0, value: 1 };
+    /// let co = Record { name: *b"co", kind: Kind::Number, place: 1, value: 20 };
+    /// assert_eq!(database.list("kiln"), Ok(vec![am, co]));
+    /// ```
+    pub fn list(&self, name: impl AsRef<[u8]>) -> Result<Vec<Record>, Refusal> {
+        let mut out = vec![0; RECORDS * Record::BYTES];
+        let records = self.list_into(name, &mut out)?;
+        let read = |bytes: &[u8]| {
+            let bytes = bytes.try_into().expect("a chunk is one record");
+            Record::from_bytes(bytes).expect("the library writes kinds 1, 2 and 3")
+        };
+        Ok(out.chunks_exact(Record::BYTES).take(records).map(read).collect())
+    }
+
+    /// Writes the records to the start of `out`, [`Record::BYTES`] each, and gives their number.
+    /// [`Record::from_bytes`] reads them; room for [`RECORDS`] of them is always enough.
+    ///
+    /// ```
+    /// # use termcap_proved::Database;
+    /// let database = Database::new(b"oven:co#300:\n");
+    /// let mut out = [0; 8];
+    /// assert_eq!(database.list_into("oven", &mut out), Ok(1));
+    /// assert_eq!(out, [b'c', b'o', 2, 0, 0, 0, 1, 44]);
+    /// ```
+    pub fn list_into(&self, name: impl AsRef<[u8]>, out: &mut [u8]) -> Result<usize, Refusal> {
+        let mut records = 0;
+        let result = sys::list(self.bytes, name.as_ref(), out, &mut records);
+        accepted(result, ())?;
+        Ok(size(records))
+    }
+
+    /// The resolved terminal as one line: the names, then each winning field as written. As a
+    /// database of its own it answers every question about the terminal as this one does.
+    ///
+    /// ```
+    /// # use termcap_proved::Database;
+    /// let database = Database::new(b"kiln:am@:li#4:tc=oven:\noven:am:co#20:li#2:\n");
+    /// assert_eq!(database.flat("kiln"), Ok(b"kiln:li#4:co#20:\n".to_vec()));
+    /// ```
+    pub fn flat(&self, name: impl AsRef<[u8]>) -> Result<Vec<u8>, Refusal> {
+        let mut out = vec![0; FLAT_BYTES];
+        let count = self.flat_into(name, &mut out)?;
+        out.truncate(count);
+        out.shrink_to_fit();
+        Ok(out)
+    }
+
+    /// Writes that line to the start of `out` and gives the number of its bytes, the newline
+    /// included. [`FLAT_BYTES`] are always enough.
+    pub fn flat_into(&self, name: impl AsRef<[u8]>, out: &mut [u8]) -> Result<usize, Refusal> {
+        let mut count = 0;
+        let result = sys::flat(self.bytes, name.as_ref(), out, &mut count);
+        accepted(result, ())?;
+        Ok(size(count))
+    }
+}
+
+/// The line a command is sent on, for its padding.
+#[derive(Clone, Copy, Debug, PartialEq, Eq)]
+pub struct Line {
+    /// The lines of the screen the command affects, 1 to 1,000; they count if the padding is
+    /// starred.
+    pub lines: u64,
+    /// Bits a second, 0 to 115,200; ten bits are a byte.
+    pub speed: u64,
+    /// The byte to pad with.
+    pub pad: u8,
+}
+
+impl Default for Line {
+    /// One line affected, 9,600 bits a second, padded with byte 0.
+    fn default() -> Line {
+        Line { lines: 1, speed: 9_600, pad: 0 }
+    }
+}
+
+/// A position on the screen, and how the cursor is brought back to it from a step beyond.
+///
+/// A position byte of 0, 9 or 10 may not survive the way to the terminal. It is sent as one more,
+/// and the cursor is then moved back: by `back` for a column, by `up` for a row.
+#[derive(Clone, Copy, Debug, Default, PartialEq, Eq)]
+pub struct Position<'a> {
+    /// From 0 to 9,999.
+    pub row: u64,
+    /// From 0 to 9,999.
+    pub column: u64,
+    /// Moves the cursor one column back; if only this is empty, byte 8 stands for it.
+    pub back: &'a [u8],
+    /// Moves the cursor one row up; if this is empty, rows are sent as they are, and if both are
+    /// empty, so are columns.
+    pub up: &'a [u8],
+}
+
+/// The body of a decoded command and its padding. Percent signs are copied unchanged.
+///
+/// The buffer starts small and is doubled while the library has no room, up to the most bytes the
+/// command can give, which are its own and [`PADS`].
+///
+/// ```
+/// # use termcap_proved::{send, Line};
+/// let line = Line { lines: 3, speed: 1200, pad: b'.' };
+/// assert_eq!(send("20*\x1B[J", &line), Ok(b"\x1B[J........".to_vec()));
+/// ```
+pub fn send(command: impl AsRef<[u8]>, line: &Line) -> Result<Vec<u8>, Refusal> {
+    let command = command.as_ref();
+    grown(command.len(), |out| send_into(command, line, out))
+}
+
+/// Writes what [`send`] gives to the start of `out` and gives the number of its bytes.
+pub fn send_into(command: impl AsRef<[u8]>, line: &Line, out: &mut [u8]) -> Result<usize, Refusal> {
+    let mut count = 0;
+    let Line { lines, speed, pad } = *line;
+    let result = sys::send(command.as_ref(), lines, speed, pad, out, &mut count);
+    accepted(result, ())?;
+    Ok(size(count))
+}
+
+/// As [`send`], with the position filled into the body.
+///
+/// The buffer grows as with [`send`], up to the bytes of the command, of both strings, 7 more and
+/// [`PADS`].
+///
+/// ```
+/// # use termcap_proved::{send_at, Line, Position};
+/// let position = Position { row: 3, column: 9, back: b"\x08", up: b"\x1B[A" };
+/// assert_eq!(send_at("\x14%.%.", &position, &Line::default()), Ok(b"\x14\x03\x0A\x08".to_vec()));
+/// ```
+pub fn send_at(
+    command: impl AsRef<[u8]>,
+    position: &Position<'_>,
+    line: &Line,
+) -> Result<Vec<u8>, Refusal> {
+    let command = command.as_ref();
+    // Each of the two parameters is written once, from a sequence of at least two bytes: as a
+    // decimal of at most five digits, or as a byte with its compensation, which is the string or
+    // one byte 8.
+    let filled = command.len() + 2 * 3 + position.back.len() + position.up.len() + 1;
+    grown(filled, |out| send_at_into(command, position, line, out))
+}
+
+/// Writes what [`send_at`] gives to the start of `out` and gives the number of its bytes.
+pub fn send_at_into(
+    command: impl AsRef<[u8]>,
+    position: &Position<'_>,
+    line: &Line,
+    out: &mut [u8],
+) -> Result<usize, Refusal> {
+    let mut count = 0;
+    let Position { row, column, back, up } = *position;
+    let Line { lines, speed, pad } = *line;
+    let result =
+        sys::send_at(command.as_ref(), row, column, back, up, lines, speed, pad, out, &mut count);
+    accepted(result, ())?;
+    Ok(size(count))
+}
+
+/// Calls `write` with ever larger buffers until it has room. `most` bytes are enough without pads.
+fn grown(
+    most: usize,
+    write: impl Fn(&mut [u8]) -> Result<usize, Refusal>,
+) -> Result<Vec<u8>, Refusal> {
+    // Most commands ask for few pads.
+    let mut room = most + 256;
+    loop {
+        let mut out = vec![0; room];
+        match write(&mut out) {
+            Err(Refusal::NoRoom) if room < most + PADS => room = (2 * room).min(most + PADS),
+            Err(refusal) => return Err(refusal),
+            Ok(count) => {
+                out.truncate(count);
+                out.shrink_to_fit();
+                return Ok(out);
+            }
+        }
+    }
+}

@@ -1,0 +1,233 @@
+//! The C functions of the static library, each behind a safe function that gives its result number.
+//!
+//! This is the only module with unsafe code. The numbers passed by `&mut` change only with result 0.
+
+mod c {
+    extern "C" {
+        pub fn termcap_show(
+            db: *const u8,
+            db_len: usize,
+            name: *const u8,
+            name_len: usize,
+            start: *mut u64,
+            length: *mut u64,
+        ) -> u32;
+        pub fn termcap_flag(
+            db: *const u8,
+            db_len: usize,
+            name: *const u8,
+            name_len: usize,
+            id: *const u8,
+            id_len: usize,
+            value: *mut u64,
+        ) -> u32;
+        pub fn termcap_number(
+            db: *const u8,
+            db_len: usize,
+            name: *const u8,
+            name_len: usize,
+            id: *const u8,
+            id_len: usize,
+            value: *mut u64,
+        ) -> u32;
+        pub fn termcap_string(
+            db: *const u8,
+            db_len: usize,
+            name: *const u8,
+            name_len: usize,
+            id: *const u8,
+            id_len: usize,
+            out: *mut u8,
+            out_len: usize,
+            count: *mut u64,
+        ) -> u32;
+        pub fn termcap_list(
+            db: *const u8,
+            db_len: usize,
+            name: *const u8,
+            name_len: usize,
+            out: *mut u8,
+            out_len: usize,
+            records: *mut u64,
+        ) -> u32;
+        pub fn termcap_flat(
+            db: *const u8,
+            db_len: usize,
+            name: *const u8,
+            name_len: usize,
+            out: *mut u8,
+            out_len: usize,
+            count: *mut u64,
+        ) -> u32;
+        pub fn termcap_send(
+            command: *const u8,
+            command_len: usize,
+            lines: u64,
+            speed: u64,
+            pad: u8,
+            out: *mut u8,
+            out_len: usize,
+            count: *mut u64,
+        ) -> u32;
+        pub fn termcap_send_at(
+            command: *const u8,
+            command_len: usize,
+            row: u64,
+            column: u64,
+            back: *const u8,
+            back_len: usize,
+            up: *const u8,
+            up_len: usize,
+            lines: u64,
+            speed: u64,
+            pad: u8,
+            out: *mut u8,
+            out_len: usize,
+            count: *mut u64,
+        ) -> u32;
+    }
+}
+
+// SAFETY, for every call below: each pointer and length come from one Rust slice, so the pointer is
+// not null, also for an empty slice, and is valid for that length during the call. Output buffers
+// and numbers are borrowed mutably, so they overlap nothing else. The library keeps no pointer,
+// reads only within the input slices, and writes only within `out` and the numbers.
+
+pub fn show(db: &[u8], name: &[u8], start: &mut u64, length: &mut u64) -> u32 {
+    // SAFETY: see above.
+    unsafe { c::termcap_show(db.as_ptr(), db.len(), name.as_ptr(), name.len(), start, length) }
+}
+
+pub fn flag(db: &[u8], name: &[u8], id: &[u8], value: &mut u64) -> u32 {
+    // SAFETY: see above.
+    unsafe {
+        c::termcap_flag(
+            db.as_ptr(),
+            db.len(),
+            name.as_ptr(),
+            name.len(),
+            id.as_ptr(),
+            id.len(),
+            value,
+        )
+    }
+}
+
+pub fn number(db: &[u8], name: &[u8], id: &[u8], value: &mut u64) -> u32 {
+    // SAFETY: see above.
+    unsafe {
+        c::termcap_number(
+            db.as_ptr(),
+            db.len(),
+            name.as_ptr(),
+            name.len(),
+            id.as_ptr(),
+            id.len(),
+            value,
+        )
+    }
+}
+
+pub fn string(db: &[u8], name: &[u8], id: &[u8], out: &mut [u8], count: &mut u64) -> u32 {
+    // SAFETY: see above.
+    unsafe {
+        c::termcap_string(
+            db.as_ptr(),
+            db.len(),
+            name.as_ptr(),
+            name.len(),
+            id.as_ptr(),
+            id.len(),
+            out.as_mut_ptr(),
+            out.len(),
+            count,
+        )
+    }
+}
+
+pub fn list(db: &[u8], name: &[u8], out: &mut [u8], records: &mut u64) -> u32 {
+    // SAFETY: see above.
+    unsafe {
+        c::termcap_list(
+            db.as_ptr(),
+            db.len(),
+            name.as_ptr(),
+            name.len(),
+            out.as_mut_ptr(),
+            out.len(),
+            records,
+        )
+    }
+}
+
+pub fn flat(db: &[u8], name: &[u8], out: &mut [u8], count: &mut u64) -> u32 {
+    // SAFETY: see above.
+    unsafe {
+        c::termcap_flat(
+            db.as_ptr(),
+            db.len(),
+            name.as_ptr(),
+            name.len(),
+            out.as_mut_ptr(),
+            out.len(),
+            count,
+        )
+    }
+}
+
+pub fn send(
+    command: &[u8],
+    lines: u64,
+    speed: u64,
+    pad: u8,
+    out: &mut [u8],
+    count: &mut u64,
+) -> u32 {
+    // SAFETY: see above.
+    unsafe {
+        c::termcap_send(
+            command.as_ptr(),
+            command.len(),
+            lines,
+            speed,
+            pad,
+            out.as_mut_ptr(),
+            out.len(),
+            count,
+        )
+    }
+}
+
+#[allow(clippy::too_many_arguments)] // the C function's own parameters
+pub fn send_at(
+    command: &[u8],
+    row: u64,
+    column: u64,
+    back: &[u8],
+    up: &[u8],
+    lines: u64,
+    speed: u64,
+    pad: u8,
+    out: &mut [u8],
+    count: &mut u64,
+) -> u32 {
+    // SAFETY: see above.
+    unsafe {
+        c::termcap_send_at(
+            command.as_ptr(),
+            command.len(),
+            row,
+            column,
+            back.as_ptr(),
+            back.len(),
+            up.as_ptr(),
+            up.len(),
+            lines,
+            speed,
+            pad,
+            out.as_mut_ptr(),
+            out.len(),
+            count,
+        )
+    }
+}

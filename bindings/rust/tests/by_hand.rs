@@ -1,0 +1,290 @@
+//! Calls with answers worked out by hand.
+
+use termcap_proved::{
+    send, send_at, send_at_into, send_into, Database, Kind, Line, NotARefusal, Position, Record,
+    Refusal, FLAT_BYTES, RECORDS,
+};
+
+const CASE: &[u8] = br"N9|aaa:am:li#30:tc=aaa-unk:
+NY|aaa-unk:co#80:li#48:cl=\E[H:
+QZ|aaa-nam:am@:tc=aaa:
+";
+
+const FLAT: &[u8] = b"QZ|aaa-nam:li#30:co#80:cl=\\E[H:\n";
+
+const SLOW: Line = Line { lines: 1, speed: 1200, pad: 0 };
+
+/// A buffer whose bytes show whether they were written.
+const MARK: u8 = 0xA5;
+
+fn record(name: &[u8; 2], kind: Kind, place: u8, value: u32) -> Record {
+    Record { name: *name, kind, place, value }
+}
+
+#[test]
+fn the_whole_case_is_listed() {
+    let database = Database::new(CASE);
+    let records = vec![
+        record(b"li", Kind::Number, 1, 30),
+        record(b"co", Kind::Number, 2, 80),
+        record(b"cl", Kind::String, 2, 3),
+    ];
+    assert_eq!(database.list("aaa-nam"), Ok(records));
+
+    let mut out = [MARK; 25];
+    assert_eq!(database.list_into("aaa-nam", &mut out), Ok(3));
+    let bytes =
+        [[108, 105, 2, 1, 0, 0, 0, 30], [99, 111, 2, 2, 0, 0, 0, 80], [99, 108, 3, 2, 0, 0, 0, 3]];
+    assert_eq!(out[..24], bytes.concat());
+    assert_eq!(out[24], MARK);
+}
+
+#[test]
+fn the_whole_case_is_flattened() {
+    assert_eq!(Database::new(CASE).flat("aaa-nam"), Ok(FLAT.to_vec()));
+    let alone = Database::new(FLAT);
+    assert_eq!(alone.flat("QZ"), Ok(FLAT.to_vec()));
+    let records = vec![
+        record(b"li", Kind::Number, 0, 30),
+        record(b"co", Kind::Number, 0, 80),
+        record(b"cl", Kind::String, 0, 3),
+    ];
+    assert_eq!(alone.list("aaa-nam"), Ok(records));
+}
+
+#[test]
+fn the_whole_case_is_asked() {
+    let database = Database::new(CASE);
+    assert_eq!(database.flag("aaa", "am"), Ok(true));
+    assert_eq!(database.flag("aaa-nam", "am"), Ok(false));
+    assert_eq!(database.flag("aaa-nam", "co"), Ok(false));
+    assert_eq!(database.number("aaa-nam", "li"), Ok(Some(30)));
+    assert_eq!(database.number("aaa-nam", "co"), Ok(Some(80)));
+    assert_eq!(database.number("aaa-nam", "cl"), Ok(None));
+    assert_eq!(database.string("aaa-nam", "cl"), Ok(Some(b"\x1B[H".to_vec())));
+    assert_eq!(database.string("aaa-nam", "co"), Ok(None));
+    assert_eq!(database.show("aaa-unk"), Ok(&br"NY|aaa-unk:co#80:li#48:cl=\E[H:"[..]));
+}
+
+#[test]
+fn show_gives_the_lent_bytes_themselves() {
+    let part = Database::new(CASE).show("QZ").unwrap();
+    assert_eq!(part.as_ptr(), CASE[60..].as_ptr());
+    assert_eq!(part, b"QZ|aaa-nam:am@:tc=aaa:");
+}
+
+#[test]
+fn names_and_ids_are_any_bytes() {
+    let database = Database::new(b"n\x7F|n1:c1#7:");
+    assert_eq!(database.number(String::from("n1"), vec![b'c', b'1']), Ok(Some(7)));
+    assert_eq!(database.number(b"n\x7F", b"c1"), Err(Refusal::BadName));
+}
+
+#[test]
+fn an_empty_name_id_database_or_command_is_fine_to_pass() {
+    let empty = Database::new(b"");
+    assert_eq!(empty.show(""), Err(Refusal::BadName));
+    assert_eq!(empty.flag("n", ""), Err(Refusal::BadId));
+    assert_eq!(empty.flat_into("n", &mut []), Err(Refusal::NoDescription));
+    assert_eq!(send("", &SLOW), Ok(vec![]));
+    assert_eq!(send_at_into("", &Position::default(), &SLOW, &mut []), Ok(0));
+    assert_eq!(Database::new(b"n:le=:").string("n", "le"), Ok(Some(vec![])));
+}
+
+#[test]
+fn each_refusal_of_a_question() {
+    let refusal = |bytes: &[u8]| Database::new(bytes).number("n", "co").unwrap_err();
+    assert_eq!(Database::new(b"n:").flag("a:b", "am"), Err(Refusal::BadName));
+    assert_eq!(Database::new(b"n:").flag("n", "tc"), Err(Refusal::BadId));
+    assert_eq!(refusal(&vec![b'\n'; 1_048_577]), Refusal::DatabaseTooLarge);
+    assert_eq!(refusal(&vec![b'\n'; 1_048_576]), Refusal::NoDescription);
+    assert_eq!(refusal(b"n:tc=m:"), Refusal::LostLink);
+    assert_eq!(refusal(b"n:co#:"), Refusal::Malformed);
+    assert_eq!(refusal(b"n:co#80:tc=m:\nm:tc=n:"), Refusal::Cycle);
+
+    let mut chain = b"n:tc=1:\n".to_vec();
+    for link in 1..32 {
+        chain.extend_from_slice(format!("{link}:tc={}:\n", link + 1).as_bytes());
+    }
+    chain.extend_from_slice(b"32:co#80:\n");
+    assert_eq!(refusal(&chain), Refusal::ChainTooLarge);
+    assert_eq!(Database::new(&chain).number("1", "co"), Ok(Some(80)));
+}
+
+#[test]
+fn each_refusal_of_send() {
+    let position = Position { row: 27, column: 9, ..Position::default() };
+    let refusal = |command: &str| send_at(command, &position, &SLOW).unwrap_err();
+    assert_eq!(refusal("%x"), Refusal::BadPercent);
+    assert_eq!(refusal("%d%d%d"), Refusal::TooFewParameters);
+    assert_eq!(refusal("%d%D%d"), Refusal::OutOfRange);
+    assert_eq!(refusal("12345A"), Refusal::BadPadding);
+    assert_eq!(send("1.23A", &SLOW), Err(Refusal::BadPadding));
+
+    let off = Position { row: 10_000, ..position };
+    assert_eq!(send_at("A", &off, &SLOW), Err(Refusal::OutOfRange));
+    assert_eq!(send("A", &Line { lines: 0, ..SLOW }), Err(Refusal::OutOfRange));
+    assert_eq!(send("A", &Line { lines: 1_001, ..SLOW }), Err(Refusal::OutOfRange));
+    assert_eq!(send("A", &Line { speed: 115_201, ..SLOW }), Err(Refusal::OutOfRange));
+}
+
+#[test]
+fn a_buffer_one_short_is_refused_and_keeps_every_byte() {
+    let database = Database::new(CASE);
+    let position = Position { row: 20, column: 58, ..Position::default() };
+    let mut out = [MARK; 64];
+
+    assert_eq!(database.string_into("aaa-nam", "cl", &mut out[..2]), Err(Refusal::NoRoom));
+    assert_eq!(database.list_into("aaa-nam", &mut out[..23]), Err(Refusal::NoRoom));
+    assert_eq!(database.flat_into("aaa-nam", &mut out[..31]), Err(Refusal::NoRoom));
+    assert_eq!(send_into("20A", &SLOW, &mut out[..3]), Err(Refusal::NoRoom));
+    let moved = send_at_into("\x1B[%i%d;%dH", &position, &SLOW, &mut out[..7]);
+    assert_eq!(moved, Err(Refusal::NoRoom));
+    assert_eq!(out, [MARK; 64]);
+
+    assert_eq!(database.string_into("aaa-nam", "cl", &mut out[..3]), Ok(Some(3)));
+    assert_eq!(database.list_into("aaa-nam", &mut out[..24]), Ok(3));
+    assert_eq!(database.flat_into("aaa-nam", &mut out[..32]), Ok(32));
+    assert_eq!(send_into("20A", &SLOW, &mut out[..4]), Ok(4));
+    let moved = send_at_into("\x1B[%i%d;%dH", &position, &SLOW, &mut out[..8]);
+    assert_eq!(moved, Ok(8));
+    assert_eq!(&out[..8], b"\x1B[21;59H");
+    assert_eq!(out[32..], [MARK; 32]);
+}
+
+#[test]
+fn nothing_is_written_on_other_refusals_and_when_absent() {
+    let mut out = [MARK; 64];
+    let damaged = Database::new(b"n:le=^H:tc=m:");
+    assert_eq!(damaged.string_into("n", "le", &mut out), Err(Refusal::LostLink));
+    assert_eq!(damaged.list_into("n", &mut out), Err(Refusal::LostLink));
+    assert_eq!(damaged.flat_into("n", &mut out), Err(Refusal::LostLink));
+    assert_eq!(Database::new(CASE).string_into("aaa", "le", &mut out), Ok(None));
+    assert_eq!(Database::new(CASE).string_into("aaa", "le", &mut []), Ok(None));
+    assert_eq!(send_into("00001A", &SLOW, &mut out), Err(Refusal::BadPadding));
+    let cut_off = send_at_into("ABC%", &Position::default(), &SLOW, &mut out);
+    assert_eq!(cut_off, Err(Refusal::BadPercent));
+    assert_eq!(out, [MARK; 64]);
+}
+
+#[test]
+fn positions() {
+    let at = |command: &str, row, column| {
+        send_at(command, &Position { row, column, ..Position::default() }, &SLOW)
+    };
+    assert_eq!(at("\x1B[%i%d;%dH", 20, 58), Ok(b"\x1B[21;59H".to_vec()));
+    assert_eq!(at("%+ %+ ", 0, 79), Ok(vec![32, 111]));
+    assert_eq!(at("%B%d", 27, 0), Ok(b"39".to_vec()));
+    assert_eq!(at("%D%d", 27, 0), Ok(b"5".to_vec()));
+    assert_eq!(at("%D%d", 9, 0), Err(Refusal::OutOfRange));
+    assert_eq!(at("%r%3;%2%%", 4, 17), Ok(b"017;04%".to_vec()));
+    // Nothing is raised while both strings are empty.
+    assert_eq!(at("%.%.", 0, 9), Ok(vec![0, 9]));
+}
+
+#[test]
+fn raised_bytes_are_compensated() {
+    let at = |back, up| {
+        let position = Position { row: 0, column: 10, back, up };
+        send_at("%.%.", &position, &SLOW).unwrap()
+    };
+    assert_eq!(at(b"<", b"^"), b"\x01\x0B^<");
+    assert_eq!(at(b"", b"^"), b"\x01\x0B^\x08");
+    assert_eq!(at(b"<", b""), b"\x00\x0B<");
+}
+
+#[test]
+fn padding() {
+    let pads = |command: &str, lines, speed| {
+        send(command, &Line { lines, speed, pad: b'.' }).map(|bytes| bytes.len())
+    };
+    assert_eq!(pads("5", 1, 9600), Ok(5));
+    assert_eq!(pads("20*", 3, 1200), Ok(8));
+    assert_eq!(pads("100", 1, 1200), Ok(12));
+    assert_eq!(send("1.5*%d", &Line { lines: 2, speed: 9600, pad: b'.' }), Ok(b"%d...".to_vec()));
+}
+
+#[test]
+fn the_largest_outputs_fit() {
+    // 5,460 flags of two bytes and a colon, after names of three bytes: a chain's size of 16,384.
+    let bytes = (b'!'..=b'~').filter(|byte| !b":\\".contains(byte));
+    let pairs = bytes.clone().flat_map(|first| bytes.clone().map(move |second| [first, second]));
+    let ids = pairs.filter(|id| id[0] != b'.' && id != b"tc");
+    let mut database = b"max:".to_vec();
+    for id in ids.take(RECORDS) {
+        database.extend_from_slice(&id);
+        database.push(b':');
+    }
+    let flags = Database::new(&database);
+    assert_eq!(database.len(), 16_384);
+    assert_eq!(flags.list("max").map(|records| records.len()), Ok(5_460));
+    assert_eq!(flags.flat("max").map(|line| line.len()), Ok(FLAT_BYTES));
+
+    let text = [b"n:le=".to_vec(), vec![b'x'; 16_378], b":".to_vec()].concat();
+    let decoded = Database::new(&text).string("n", "le");
+    assert_eq!(decoded, Ok(Some(vec![b'x'; 16_378])));
+
+    // 999,990 tenths of a millisecond at 115,200 bits a second are 1,151,988.48 bytes.
+    let sent = send("9999.9*", &Line { lines: 10, speed: 115_200, pad: 0 });
+    assert_eq!(sent.map(|bytes| bytes.len()), Ok(1_151_989));
+}
+
+#[test]
+fn the_bound_of_send_at_without_pads_is_kept() {
+    // Two decimals of five digits: %B makes 16 * 999 + 9 of 9,999.
+    let position = Position { row: 9_999, column: 9_999, ..Position::default() };
+    assert_eq!(send_at("%B%d%B%d", &position, &SLOW), Ok(b"1599315993".to_vec()));
+}
+
+#[test]
+fn the_sample_databases() {
+    let sample = Database::new(include_bytes!("../../../data/sample.tc"));
+    assert_eq!(sample.number("press-4", "TN"), Ok(Some(630)));
+    assert_eq!(sample.number("press-4", "co"), Ok(Some(132)));
+    assert_eq!(sample.flag("press-4", "am"), Ok(true));
+    assert_eq!(sample.flag("press-1", "am"), Ok(false));
+    assert_eq!(sample.string("press-1", "k1"), Ok(Some(b"\x1BOP".to_vec())));
+    assert_eq!(sample.string("press-1", "k3"), Ok(None));
+    assert_eq!(sample.string("oven-3", "Z1"), Ok(Some(b"heat: ".to_vec())));
+    assert_eq!(sample.string("oven-3", "DG"), Ok(None));
+    assert_eq!(sample.string("oven-4", "DG"), Ok(Some(vec![0o260])));
+    assert_eq!(sample.string("dm1520", "nd"), Ok(Some(vec![28])));
+
+    let damaged = Database::new(include_bytes!("../../../data/damaged.tc"));
+    assert_eq!(damaged.list("whole").map(|records| records.len()), Ok(4));
+    for (name, refusal) in [
+        ("lost-link", Refusal::LostLink),
+        ("cycle-a", Refusal::Cycle),
+        ("cycle-b", Refusal::Cycle),
+        ("self-link", Refusal::Cycle),
+        ("no-colon", Refusal::Malformed),
+        ("bad-number", Refusal::Malformed),
+        ("big-number", Refusal::Malformed),
+        ("bad-colon", Refusal::Malformed),
+        ("after-link", Refusal::Malformed),
+        ("long-link", Refusal::Malformed),
+        ("bad-octal", Refusal::Malformed),
+        ("indented", Refusal::Malformed),
+    ] {
+        assert_eq!(damaged.list(name), Err(refusal), "{name}");
+    }
+}
+
+#[test]
+fn refusals_and_kinds_have_their_numbers() {
+    for number in 1..=13 {
+        let refusal = Refusal::try_from(number).unwrap();
+        assert_eq!(refusal.number(), number);
+        assert!(!refusal.to_string().is_empty());
+    }
+    for number in [0, 14, 255, u32::MAX] {
+        assert_eq!(Refusal::try_from(number), Err(NotARefusal(number)));
+    }
+    assert_eq!(Refusal::BadName.number(), 1);
+    assert_eq!(Refusal::BadPadding.number(), 13);
+    assert_eq!(NotARefusal(14).to_string(), "14 is no refusal number");
+
+    assert_eq!(Kind::from_number(3), Some(Kind::String));
+    assert_eq!(Kind::from_number(4), None);
+    assert_eq!(Record::from_bytes([b'c', b'o', 0, 0, 0, 0, 0, 0]), None);
+}

@@ -1,0 +1,150 @@
+//! Compares the static library with the reference on generated cases.
+//!
+//! On the first case that disagrees it prints a smaller one, as a Rust expression that can be
+//! pasted into a test, and both answers.
+
+use std::process::ExitCode;
+use std::sync::atomic::{AtomicU64, Ordering};
+use std::thread;
+use std::time::{Duration, Instant};
+
+use termcap_tests::case::{disagreement, Case};
+use termcap_tests::shrink::shrink;
+use termcap_tests::{examples, generate, mix};
+
+#[path = "../library.rs"]
+mod library;
+use library::Library;
+
+const USAGE: &str = "[--seed S] [--cases N] [--from I] [--no-examples] [--trace] [--mix]";
+const SHRINKING_TIME: Duration = Duration::from_secs(30);
+const STUCK_AFTER: Duration = Duration::from_secs(60);
+
+struct Options {
+    seed: u64,
+    cases: u64,
+    /// The first case: case I of a seed is the same in every run.
+    from: u64,
+    /// Asks the answers written by hand first.
+    examples: bool,
+    /// Names each case before it runs, to find one that doesn't come back.
+    trace: bool,
+    /// Only counts what the generated cases are made of.
+    mix: bool,
+}
+
+fn main() -> ExitCode {
+    let options = match read_options() {
+        Ok(options) => options,
+        Err(complaint) => {
+            eprintln!("differential: {complaint}");
+            eprintln!("usage: differential {USAGE}");
+            return ExitCode::from(2);
+        }
+    };
+    if options.mix {
+        println!("{}", mix::measure(options.seed, options.cases));
+        return ExitCode::SUCCESS;
+    }
+    if (!options.examples || run_examples()) && run_cases(&options) {
+        println!("differential: {} cases agree (seed {})", options.cases, options.seed);
+        ExitCode::SUCCESS
+    } else {
+        ExitCode::FAILURE
+    }
+}
+
+fn read_options() -> Result<Options, String> {
+    let mut options =
+        Options { seed: 1, cases: 200_000, from: 0, examples: true, trace: false, mix: false };
+    let mut arguments = std::env::args().skip(1);
+    while let Some(argument) = arguments.next() {
+        let mut number = || {
+            let text = arguments.next().ok_or(format!("{argument} needs a number"))?;
+            text.parse().map_err(|_| format!("{text} is no number for {argument}"))
+        };
+        match argument.as_str() {
+            "--seed" => options.seed = number()?,
+            "--cases" => options.cases = number()?,
+            "--from" => options.from = number()?,
+            "--no-examples" => options.examples = false,
+            "--trace" => options.trace = true,
+            "--mix" => options.mix = true,
+            _ => return Err(format!("unknown option {argument}")),
+        }
+    }
+    Ok(options)
+}
+
+/// The answers written by hand; all of them are tried, so that a first run says more.
+fn run_examples() -> bool {
+    let mut right = true;
+    for example in examples::all() {
+        if let Some(complaint) = examples::wrong(&example, &Library) {
+            right = false;
+            println!("example \"{}\" is answered wrongly\n{complaint}", example.title);
+        }
+    }
+    right
+}
+
+/// The case that runs now, for the watch that reports one that never ends.
+static RUNNING: AtomicU64 = AtomicU64::new(u64::MAX);
+
+fn run_cases(options: &Options) -> bool {
+    let seed = options.seed;
+    thread::spawn(move || watch(seed));
+    let start = Instant::now();
+    let every = (options.cases / 10).max(1);
+    for done in 0..options.cases {
+        let index = options.from + done;
+        RUNNING.store(index, Ordering::Relaxed);
+        if options.trace {
+            eprintln!("case {index}");
+        }
+        let case = generate::case(seed, index);
+        if let Some(complaint) = disagreement(&case, &Library) {
+            RUNNING.store(u64::MAX, Ordering::Relaxed);
+            report(seed, index, done + 1, &case, &complaint);
+            return false;
+        }
+        if (done + 1) % every == 0 {
+            let seconds = start.elapsed().as_secs_f64();
+            eprintln!("differential: {} of {} cases, {seconds:.1} s", done + 1, options.cases);
+        }
+    }
+    RUNNING.store(u64::MAX, Ordering::Relaxed);
+    true
+}
+
+/// Ends the run if one case takes far too long.
+fn watch(seed: u64) {
+    let mut last = u64::MAX;
+    let mut since = Instant::now();
+    loop {
+        thread::sleep(Duration::from_secs(1));
+        let running = RUNNING.load(Ordering::Relaxed);
+        if running != last || running == u64::MAX {
+            last = running;
+            since = Instant::now();
+        } else if since.elapsed() > STUCK_AFTER {
+            println!(
+                "case {running} of seed {seed} doesn't end\n{}",
+                generate::case(seed, running)
+            );
+            std::process::exit(1);
+        }
+    }
+}
+
+/// What is known is printed before shrinking, in case that is not survived.
+fn report(seed: u64, index: u64, tried: u64, case: &Case, complaint: &str) {
+    println!("case {index} of seed {seed} disagrees (found after {tried} cases)");
+    println!("{}", complaint.trim_end());
+    let small = shrink(case, SHRINKING_TIME, |case| disagreement(case, &Library).is_some());
+    println!("\nas small as it could be made:\n\n{small}\n");
+    match disagreement(&small, &Library) {
+        Some(complaint) => println!("{}", complaint.trim_end()),
+        None => println!("(the library doesn't answer it the same way each time)"),
+    }
+}

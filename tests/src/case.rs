@@ -1,0 +1,402 @@
+//! A case: one operation with its inputs; what a subject was seen to do with it; the comparison.
+
+use std::fmt;
+
+use crate::properties;
+use crate::random::Random;
+use crate::reference::Position;
+use crate::subject::{Reference, Subject, ABSENT, ACCEPTED};
+
+#[derive(Clone, Copy, Debug, Default, PartialEq, Eq)]
+pub enum Operation {
+    #[default]
+    Show,
+    Flag,
+    Number,
+    String,
+    List,
+    Flat,
+    Send,
+    SendAt,
+    /// Demand 3 on real calls: `id` holds ids to ask besides those listed, two bytes each.
+    Properties,
+}
+
+impl Operation {
+    pub const ALL: [Operation; 9] = [
+        Operation::Show,
+        Operation::Flag,
+        Operation::Number,
+        Operation::String,
+        Operation::List,
+        Operation::Flat,
+        Operation::Send,
+        Operation::SendAt,
+        Operation::Properties,
+    ];
+
+    pub fn sends(self) -> bool {
+        matches!(self, Operation::Send | Operation::SendAt)
+    }
+
+    pub fn takes_id(self) -> bool {
+        use Operation::*;
+        matches!(self, Flag | Number | String | Properties)
+    }
+
+    pub fn takes_room(self) -> bool {
+        use Operation::*;
+        !matches!(self, Show | Flag | Number)
+    }
+
+    /// The names of the numbers it reports.
+    fn number_names(self) -> &'static [&'static str] {
+        use Operation::*;
+        match self {
+            Show => &["start", "length"],
+            Flag | Number => &["value"],
+            List => &["records"],
+            _ => &["count"],
+        }
+    }
+}
+
+/// Inputs that an operation doesn't take are left as in the default.
+#[derive(Clone, Debug, Default, PartialEq, Eq)]
+pub struct Case {
+    pub operation: Operation,
+    pub database: Vec<u8>,
+    pub name: Vec<u8>,
+    pub id: Vec<u8>,
+    pub command: Vec<u8>,
+    pub row: u64,
+    pub column: u64,
+    pub back: Vec<u8>,
+    pub up: Vec<u8>,
+    pub lines: u64,
+    pub speed: u64,
+    pub pad: u8,
+    /// Bytes of the lent output buffer.
+    pub room: u64,
+    /// Seed of what stands in the buffer, the guards and the numbers before the call.
+    pub fill: u64,
+}
+
+/// What a call left behind: the result, the numbers and every byte of the buffer and its guards.
+#[derive(Clone, Debug, PartialEq, Eq)]
+pub struct Observed {
+    pub code: u32,
+    pub numbers: [u64; 2],
+    pub block: Vec<u8>,
+}
+
+/// Guard bytes before and behind the lent buffer.
+pub const GUARD: usize = 64;
+
+impl Observed {
+    pub fn out(&self) -> &[u8] {
+        &self.block[GUARD..self.block.len() - GUARD]
+    }
+
+    /// The bytes said to be written, as far as the buffer has them: the number may be a lie.
+    pub fn reported(&self, bytes: u64) -> &[u8] {
+        let out = self.out();
+        &out[..bytes.min(out.len() as u64) as usize]
+    }
+}
+
+/// The block and the numbers as they stand before the call.
+pub fn before(case: &Case) -> Observed {
+    let mut random = Random::new(case.fill);
+    let mut block = vec![0; GUARD + case.room as usize + GUARD];
+    random.fill(&mut block);
+    Observed { code: u32::MAX, numbers: [random.number(), random.number()], block }
+}
+
+/// One call of the subject; for the properties, the call of Flat that they start from.
+pub fn observe(case: &Case, subject: &impl Subject) -> Observed {
+    let mut seen = before(case);
+    let end = seen.block.len() - GUARD;
+    let out = &mut seen.block[GUARD..end];
+    let [first, second] = &mut seen.numbers;
+    let (database, name, id) = (&case.database[..], &case.name[..], &case.id[..]);
+    let position = Position { row: case.row, column: case.column, back: &case.back, up: &case.up };
+    seen.code = match case.operation {
+        Operation::Show => subject.show(database, name, first, second),
+        Operation::Flag => subject.flag(database, name, id, first),
+        Operation::Number => subject.number(database, name, id, first),
+        Operation::String => subject.string(database, name, id, out, first),
+        Operation::List => subject.list(database, name, out, first),
+        Operation::Flat | Operation::Properties => subject.flat(database, name, out, first),
+        Operation::Send => {
+            subject.send(&case.command, case.lines, case.speed, case.pad, out, first)
+        }
+        Operation::SendAt => {
+            subject.send_at(&case.command, position, case.lines, case.speed, case.pad, out, first)
+        }
+    };
+    seen
+}
+
+/// What is wrong with the subject's answer to the case; nothing if it is right.
+pub fn disagreement(case: &Case, subject: &impl Subject) -> Option<String> {
+    let kept = case.clone();
+    let complaint = if case.operation == Operation::Properties {
+        properties::broken(case, subject)
+    } else {
+        let expected = observe(&kept, &Reference);
+        let seen = observe(case, subject);
+        (seen != expected).then(|| explain(&kept, &expected, &seen))
+    };
+    if *case != kept {
+        return Some("the library changed what it was lent to read\n".to_string());
+    }
+    complaint
+}
+
+fn explain(case: &Case, expected: &Observed, seen: &Observed) -> String {
+    let mut text = String::new();
+    text += &format!("reference: {}\n", describe(case, expected));
+    text += &format!("library:   {}\n", describe(case, seen));
+    for line in byte_differences(case, expected, seen) {
+        text += &format!("{line}\n");
+    }
+    text
+}
+
+/// Bytes of an answer that are shown.
+const MOST_SHOWN: usize = 400;
+
+/// One answer in words.
+pub fn describe(case: &Case, observed: &Observed) -> String {
+    let result = match observed.code {
+        ACCEPTED => "0 (accepted)".to_string(),
+        ABSENT => "255 (absent)".to_string(),
+        other => format!("{other} (refused)"),
+    };
+    let mut text = format!("result {result}");
+    let old = before(case).numbers;
+    for (place, name) in case.operation.number_names().iter().enumerate() {
+        if observed.numbers[place] == old[place] {
+            text += &format!(", {name} unchanged");
+        } else {
+            text += &format!(", {name} {}", observed.numbers[place]);
+        }
+    }
+    if observed.code == ACCEPTED && case.operation.takes_room() {
+        let each = if case.operation == Operation::List { 8 } else { 1 };
+        let bytes = observed.reported(observed.numbers[0].saturating_mul(each));
+        text += &format!(", bytes {}", Bytes(&bytes[..bytes.len().min(MOST_SHOWN)]));
+        if bytes.len() > MOST_SHOWN {
+            text += &format!(" and {} more", bytes.len() - MOST_SHOWN);
+        }
+    }
+    text
+}
+
+/// The first few bytes of buffer and guards that differ.
+fn byte_differences(case: &Case, expected: &Observed, seen: &Observed) -> Vec<String> {
+    const SHOWN: usize = 8;
+    let old = before(case).block;
+    let places: Vec<usize> =
+        (0..old.len()).filter(|&place| expected.block[place] != seen.block[place]).collect();
+    let mut lines = Vec::new();
+    for &place in places.iter().take(SHOWN) {
+        let offset = place as i64 - GUARD as i64;
+        let guard = if offset < 0 || offset >= case.room as i64 { " (guard)" } else { "" };
+        lines.push(format!(
+            "out[{offset}]{guard}: before {}, reference {}, library {}",
+            old[place], expected.block[place], seen.block[place]
+        ));
+    }
+    if places.len() > SHOWN {
+        lines.push(format!("... {} bytes differ in all", places.len()));
+    }
+    lines
+}
+
+/// Bytes as a Rust expression: a byte string, or parts of one where a byte is repeated often.
+pub struct Bytes<'a>(pub &'a [u8]);
+
+const LONG_RUN: usize = 48;
+
+impl fmt::Display for Bytes<'_> {
+    fn fmt(&self, formatter: &mut fmt::Formatter) -> fmt::Result {
+        let parts: Vec<String> = parts_of(self.0).iter().map(|part| part_text(part)).collect();
+        match &parts[..] {
+            [] => write!(formatter, "b\"\".to_vec()"),
+            [one] => write!(formatter, "{one}"),
+            many => write!(formatter, "[{}].concat()", many.join(", ")),
+        }
+    }
+}
+
+fn part_text(part: &[u8]) -> String {
+    if part.len() >= LONG_RUN && part.iter().all(|byte| *byte == part[0]) {
+        format!("vec![{}; {}]", part[0], part.len())
+    } else {
+        format!("b\"{}\".to_vec()", part.escape_ascii())
+    }
+}
+
+/// Splits off runs of one byte that are long.
+fn parts_of(bytes: &[u8]) -> Vec<&[u8]> {
+    let mut parts = Vec::new();
+    let mut start = 0;
+    let mut place = 0;
+    while place < bytes.len() {
+        let run = bytes[place..].iter().take_while(|byte| **byte == bytes[place]).count();
+        if run >= LONG_RUN {
+            if start < place {
+                parts.push(&bytes[start..place]);
+            }
+            parts.push(&bytes[place..place + run]);
+            start = place + run;
+        }
+        place += run;
+    }
+    if start < bytes.len() {
+        parts.push(&bytes[start..]);
+    }
+    parts
+}
+
+/// A case as a Rust expression.
+impl fmt::Display for Case {
+    fn fmt(&self, formatter: &mut fmt::Formatter) -> fmt::Result {
+        writeln!(formatter, "Case {{")?;
+        writeln!(formatter, "    operation: Operation::{:?},", self.operation)?;
+        if self.operation.sends() {
+            writeln!(formatter, "    command: {},", Bytes(&self.command))?;
+            if self.operation == Operation::SendAt {
+                writeln!(formatter, "    row: {},", self.row)?;
+                writeln!(formatter, "    column: {},", self.column)?;
+                writeln!(formatter, "    back: {},", Bytes(&self.back))?;
+                writeln!(formatter, "    up: {},", Bytes(&self.up))?;
+            }
+            writeln!(formatter, "    lines: {},", self.lines)?;
+            writeln!(formatter, "    speed: {},", self.speed)?;
+            writeln!(formatter, "    pad: {},", self.pad)?;
+        } else {
+            writeln!(formatter, "    database: {},", Bytes(&self.database))?;
+            writeln!(formatter, "    name: {},", Bytes(&self.name))?;
+            if self.operation.takes_id() {
+                writeln!(formatter, "    id: {},", Bytes(&self.id))?;
+            }
+        }
+        if self.operation.takes_room() {
+            writeln!(formatter, "    room: {},", self.room)?;
+        }
+        writeln!(formatter, "    fill: {},", self.fill)?;
+        writeln!(formatter, "    ..Case::default()")?;
+        write!(formatter, "}}")
+    }
+}
+
+#[cfg(test)]
+mod tests {
+    use super::*;
+    use crate::generate;
+    use crate::shrink::shrink;
+    use crate::twisted::{Answer, Twisted};
+    use std::cell::RefCell;
+    use std::time::Duration;
+
+    fn found_within(cases: u64, subject: &impl Subject) -> Option<Case> {
+        (0..cases)
+            .map(|index| generate::case(1, index))
+            .find(|case| disagreement(case, subject).is_some())
+    }
+
+    #[test]
+    fn the_reference_agrees_with_itself() {
+        assert_eq!(found_within(5_000, &Reference), None);
+    }
+
+    #[test]
+    fn a_byte_past_the_count_is_seen() {
+        let subject = Twisted(|answer: Answer| {
+            let place = *answer.number as usize;
+            if answer.code == ACCEPTED && place < answer.out.len() {
+                answer.out[place] ^= 1;
+            }
+            answer.code
+        });
+        assert!(found_within(200, &subject).is_some());
+    }
+
+    #[test]
+    fn a_number_changed_by_a_refusal_is_seen() {
+        let subject = Twisted(|answer: Answer| {
+            if answer.code != ACCEPTED {
+                *answer.number = 0;
+            }
+            answer.code
+        });
+        assert!(found_within(200, &subject).is_some());
+    }
+
+    #[test]
+    fn no_answer_is_too_wild() {
+        let random = RefCell::new(Random::new(5));
+        let subject = Twisted(|answer: Answer| {
+            let mut random = random.borrow_mut();
+            if random.chance(50) {
+                *answer.number = random.pick_value(&[0, 1, u64::MAX, 1 << 61, 44_001]);
+            }
+            if random.chance(50) {
+                random.fill(answer.out);
+            }
+            random.pick_value(&[answer.code, 0, 0, 255, 9, 77, u32::MAX])
+        });
+        for index in 0..2_000 {
+            let case = generate::case(2, index);
+            let complaint = disagreement(&case, &subject);
+            if complaint.is_some() && index % 50 == 0 {
+                let time = Duration::from_millis(5);
+                shrink(&case, time, |case| disagreement(case, &subject).is_some());
+            }
+        }
+    }
+
+    #[test]
+    fn a_failing_case_is_made_small() {
+        let subject = Twisted(|answer: Answer| {
+            if answer.operation == Operation::Flag && answer.code == ACCEPTED {
+                *answer.number = 2;
+            }
+            answer.code
+        });
+        let case = (0..)
+            .map(|index| generate::case(3, index))
+            .filter(|case| case.operation == Operation::Flag && case.database.len() > 60)
+            .find(|case| disagreement(case, &subject).is_some())
+            .expect("flags are often present");
+        let fails = |case: &Case| disagreement(case, &subject).is_some();
+        let small = shrink(&case, Duration::from_secs(20), fails);
+        assert_eq!((small.database.len(), small.name.len(), small.id.len()), (4, 1, 2), "{small}");
+    }
+
+    #[test]
+    fn a_case_is_printed_as_it_would_be_written() {
+        let case = Case {
+            operation: Operation::String,
+            database: [b"n\"\\\n\x00\xff:".to_vec(), vec![120; 100]].concat(),
+            name: b"n".to_vec(),
+            id: b"cl".to_vec(),
+            room: 3,
+            fill: 0,
+            ..Case::default()
+        };
+        let text = r#"Case {
+    operation: Operation::String,
+    database: [b"n\"\\\n\x00\xff:".to_vec(), vec![120; 100]].concat(),
+    name: b"n".to_vec(),
+    id: b"cl".to_vec(),
+    room: 3,
+    fill: 0,
+    ..Case::default()
+}"#;
+        assert_eq!(case.to_string(), text);
+    }
+}

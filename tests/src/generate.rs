@@ -1,0 +1,87 @@
+//! A seeded generator of cases: valid databases and commands, damaged ones, ones at the limits, and
+//! noise. Alphabets are small, so that names and ids meet often and every path is reached often.
+//!
+//! It reads databases only roughly and never decides what is right. The reference is asked for two
+//! things: ids that are live, and how large a buffer just fits.
+
+use crate::case::{Case, Operation};
+use crate::random::Random;
+use crate::reference::{self, Position};
+
+mod commands;
+mod databases;
+
+pub use databases::many_flags;
+
+/// Case number `index` of the run with this seed.
+pub fn case(seed: u64, index: u64) -> Case {
+    let mut random = Random::for_case(seed, index);
+    let operation = Operation::ALL[random.weighted(&[7, 9, 10, 16, 12, 12, 10, 17, 7])];
+    let mut case = Case { operation, fill: random.number(), ..Case::default() };
+    if operation.sends() {
+        commands::fill_in(&mut random, &mut case);
+    } else {
+        databases::fill_in(&mut random, &mut case);
+    }
+    if operation.takes_room() {
+        case.room = room(&mut random, &case);
+    }
+    case
+}
+
+/// Larger buffers are not lent: filling and comparing them would take most of the time.
+const LARGEST_ROOM: u64 = 100_000;
+
+/// Exactly fitting, one short, none, a little more, much more, anything less.
+fn room(random: &mut Random, case: &Case) -> u64 {
+    let needed = match needed(case) {
+        Some(bytes) if bytes <= LARGEST_ROOM => bytes,
+        _ => random.pick_value(&[10, 60, 1_500, 50_000]),
+    };
+    match random.weighted(&[32, 14, 8, 24, 14, 8]) {
+        0 => needed,
+        1 => needed.saturating_sub(1),
+        2 => 0,
+        3 => needed + random.between(1, 20),
+        4 => needed + random.between(21, 2_000),
+        _ => random.between(0, needed),
+    }
+}
+
+/// The bytes that a successful call would write.
+fn needed(case: &Case) -> Option<u64> {
+    let (database, name, id) = (&case.database, &case.name, &case.id);
+    let with_pads = |(body, pads): (Vec<u8>, u64)| body.len() as u64 + pads;
+    match case.operation {
+        Operation::String => {
+            reference::string_bytes(database, name, id).ok()?.map(|bytes| bytes.len() as u64)
+        }
+        Operation::List => Some(reference::list_bytes(database, name).ok()?.len() as u64),
+        Operation::Flat => Some(reference::flat_bytes(database, name).ok()?.len() as u64),
+        Operation::Send => {
+            reference::send_parts(&case.command, case.lines, case.speed).ok().map(with_pads)
+        }
+        Operation::SendAt => {
+            let position =
+                Position { row: case.row, column: case.column, back: &case.back, up: &case.up };
+            reference::send_at_parts(&case.command, position, case.lines, case.speed)
+                .ok()
+                .map(with_pads)
+        }
+        _ => None,
+    }
+}
+
+#[cfg(test)]
+mod tests {
+    use super::*;
+
+    #[test]
+    fn a_case_depends_on_its_seed_and_number_alone() {
+        for index in 0..500 {
+            assert_eq!(case(9, index), case(9, index));
+        }
+        let differing = (0..500).filter(|&index| case(9, index) != case(10, index)).count();
+        assert!(differing > 490);
+    }
+}

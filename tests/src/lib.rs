@@ -1,0 +1,16 @@
+//! An independent implementation of document 01 and what is needed to compare a library with it.
+//!
+//! The library under test itself is named only in `library.rs`, which belongs to the program
+//! `differential`: the unit tests of this crate run without it.
+
+pub mod case;
+pub mod examples;
+pub mod generate;
+pub mod mix;
+pub mod properties;
+pub mod random;
+pub mod reference;
+pub mod shrink;
+pub mod subject;
+#[cfg(test)]
+mod twisted;

@@ -1,0 +1,250 @@
+//! The static library, as its outside is fixed: a slice passes as pointer and length.
+//!
+//! This file belongs to the program that is linked with the library, not to the crate.
+
+use termcap_tests::reference::Position;
+use termcap_tests::subject::Subject;
+
+extern "C" {
+    fn termcap_show(
+        db: *const u8,
+        db_len: usize,
+        name: *const u8,
+        name_len: usize,
+        start: *mut u64,
+        length: *mut u64,
+    ) -> u32;
+    fn termcap_flag(
+        db: *const u8,
+        db_len: usize,
+        name: *const u8,
+        name_len: usize,
+        id: *const u8,
+        id_len: usize,
+        value: *mut u64,
+    ) -> u32;
+    fn termcap_number(
+        db: *const u8,
+        db_len: usize,
+        name: *const u8,
+        name_len: usize,
+        id: *const u8,
+        id_len: usize,
+        value: *mut u64,
+    ) -> u32;
+    fn termcap_string(
+        db: *const u8,
+        db_len: usize,
+        name: *const u8,
+        name_len: usize,
+        id: *const u8,
+        id_len: usize,
+        out: *mut u8,
+        out_len: usize,
+        count: *mut u64,
+    ) -> u32;
+    fn termcap_list(
+        db: *const u8,
+        db_len: usize,
+        name: *const u8,
+        name_len: usize,
+        out: *mut u8,
+        out_len: usize,
+        records: *mut u64,
+    ) -> u32;
+    fn termcap_flat(
+        db: *const u8,
+        db_len: usize,
+        name: *const u8,
+        name_len: usize,
+        out: *mut u8,
+        out_len: usize,
+        count: *mut u64,
+    ) -> u32;
+    fn termcap_send(
+        command: *const u8,
+        command_len: usize,
+        lines: u64,
+        speed: u64,
+        pad: u8,
+        out: *mut u8,
+        out_len: usize,
+        count: *mut u64,
+    ) -> u32;
+    fn termcap_send_at(
+        command: *const u8,
+        command_len: usize,
+        row: u64,
+        column: u64,
+        back: *const u8,
+        back_len: usize,
+        up: *const u8,
+        up_len: usize,
+        lines: u64,
+        speed: u64,
+        pad: u8,
+        out: *mut u8,
+        out_len: usize,
+        count: *mut u64,
+    ) -> u32;
+}
+
+/// The pointer to pass for a slice; for an empty one it dangles, but is never null.
+fn pointer(bytes: &[u8]) -> *const u8 {
+    if bytes.is_empty() {
+        std::ptr::NonNull::dangling().as_ptr()
+    } else {
+        bytes.as_ptr()
+    }
+}
+
+/// The static library behind safe functions. Every pointer passed is good for its length during
+/// the call, and an output buffer is lent to nobody else.
+pub struct Library;
+
+impl Subject for Library {
+    fn show(&self, database: &[u8], name: &[u8], start: &mut u64, length: &mut u64) -> u32 {
+        unsafe {
+            termcap_show(
+                pointer(database),
+                database.len(),
+                pointer(name),
+                name.len(),
+                start,
+                length,
+            )
+        }
+    }
+
+    fn flag(&self, database: &[u8], name: &[u8], id: &[u8], value: &mut u64) -> u32 {
+        unsafe {
+            termcap_flag(
+                pointer(database),
+                database.len(),
+                pointer(name),
+                name.len(),
+                pointer(id),
+                id.len(),
+                value,
+            )
+        }
+    }
+
+    fn number(&self, database: &[u8], name: &[u8], id: &[u8], value: &mut u64) -> u32 {
+        unsafe {
+            termcap_number(
+                pointer(database),
+                database.len(),
+                pointer(name),
+                name.len(),
+                pointer(id),
+                id.len(),
+                value,
+            )
+        }
+    }
+
+    fn string(
+        &self,
+        database: &[u8],
+        name: &[u8],
+        id: &[u8],
+        out: &mut [u8],
+        count: &mut u64,
+    ) -> u32 {
+        unsafe {
+            termcap_string(
+                pointer(database),
+                database.len(),
+                pointer(name),
+                name.len(),
+                pointer(id),
+                id.len(),
+                out.as_mut_ptr(),
+                out.len(),
+                count,
+            )
+        }
+    }
+
+    fn list(&self, database: &[u8], name: &[u8], out: &mut [u8], records: &mut u64) -> u32 {
+        unsafe {
+            termcap_list(
+                pointer(database),
+                database.len(),
+                pointer(name),
+                name.len(),
+                out.as_mut_ptr(),
+                out.len(),
+                records,
+            )
+        }
+    }
+
+    fn flat(&self, database: &[u8], name: &[u8], out: &mut [u8], count: &mut u64) -> u32 {
+        unsafe {
+            termcap_flat(
+                pointer(database),
+                database.len(),
+                pointer(name),
+                name.len(),
+                out.as_mut_ptr(),
+                out.len(),
+                count,
+            )
+        }
+    }
+
+    fn send(
+        &self,
+        command: &[u8],
+        lines: u64,
+        speed: u64,
+        pad: u8,
+        out: &mut [u8],
+        count: &mut u64,
+    ) -> u32 {
+        unsafe {
+            termcap_send(
+                pointer(command),
+                command.len(),
+                lines,
+                speed,
+                pad,
+                out.as_mut_ptr(),
+                out.len(),
+                count,
+            )
+        }
+    }
+
+    fn send_at(
+        &self,
+        command: &[u8],
+        position: Position,
+        lines: u64,
+        speed: u64,
+        pad: u8,
+        out: &mut [u8],
+        count: &mut u64,
+    ) -> u32 {
+        unsafe {
+            termcap_send_at(
+                pointer(command),
+                command.len(),
+                position.row,
+                position.column,
+                pointer(position.back),
+                position.back.len(),
+                pointer(position.up),
+                position.up.len(),
+                lines,
+                speed,
+                pad,
+                out.as_mut_ptr(),
+                out.len(),
+                count,
+            )
+        }
+    }
+}

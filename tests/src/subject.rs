@@ -1,0 +1,137 @@
+//! The eight functions of the library's outside, as a trait: the static library is one subject, the
+//! reference another, and the tests of this crate make up wrong ones.
+//!
+//! Each gives the result code: 0 accepted or present, 255 absent, otherwise the refusal number.
+
+use crate::reference::{self, Position, Refusal};
+
+pub const ACCEPTED: u32 = 0;
+pub const ABSENT: u32 = 255;
+
+pub trait Subject {
+    fn show(&self, database: &[u8], name: &[u8], start: &mut u64, length: &mut u64) -> u32;
+    fn flag(&self, database: &[u8], name: &[u8], id: &[u8], value: &mut u64) -> u32;
+    fn number(&self, database: &[u8], name: &[u8], id: &[u8], value: &mut u64) -> u32;
+    fn string(
+        &self,
+        database: &[u8],
+        name: &[u8],
+        id: &[u8],
+        out: &mut [u8],
+        count: &mut u64,
+    ) -> u32;
+    fn list(&self, database: &[u8], name: &[u8], out: &mut [u8], records: &mut u64) -> u32;
+    fn flat(&self, database: &[u8], name: &[u8], out: &mut [u8], count: &mut u64) -> u32;
+    fn send(
+        &self,
+        command: &[u8],
+        lines: u64,
+        speed: u64,
+        pad: u8,
+        out: &mut [u8],
+        count: &mut u64,
+    ) -> u32;
+    #[allow(clippy::too_many_arguments)]
+    fn send_at(
+        &self,
+        command: &[u8],
+        position: Position,
+        lines: u64,
+        speed: u64,
+        pad: u8,
+        out: &mut [u8],
+        count: &mut u64,
+    ) -> u32;
+}
+
+/// The reference, behind the same outside.
+pub struct Reference;
+
+/// The code of an operation that always has a value; the number changes only if accepted.
+fn accepted(result: Result<usize, Refusal>, number: &mut u64) -> u32 {
+    match result {
+        Ok(value) => {
+            *number = value as u64;
+            ACCEPTED
+        }
+        Err(refusal) => u32::from(refusal),
+    }
+}
+
+/// The code of a question; the number changes only if present.
+fn present(result: Result<Option<u64>, Refusal>, number: &mut u64) -> u32 {
+    match result {
+        Ok(Some(value)) => {
+            *number = value;
+            ACCEPTED
+        }
+        Ok(None) => ABSENT,
+        Err(refusal) => u32::from(refusal),
+    }
+}
+
+impl Subject for Reference {
+    fn show(&self, database: &[u8], name: &[u8], start: &mut u64, length: &mut u64) -> u32 {
+        match reference::show(database, name) {
+            Ok(part) => {
+                *start = part.start as u64;
+                *length = part.length as u64;
+                ACCEPTED
+            }
+            Err(refusal) => u32::from(refusal),
+        }
+    }
+
+    fn flag(&self, database: &[u8], name: &[u8], id: &[u8], value: &mut u64) -> u32 {
+        present(reference::flag(database, name, id), value)
+    }
+
+    fn number(&self, database: &[u8], name: &[u8], id: &[u8], value: &mut u64) -> u32 {
+        present(reference::number(database, name, id), value)
+    }
+
+    fn string(
+        &self,
+        database: &[u8],
+        name: &[u8],
+        id: &[u8],
+        out: &mut [u8],
+        count: &mut u64,
+    ) -> u32 {
+        let result = reference::string(database, name, id, out);
+        present(result.map(|found| found.map(|bytes| bytes as u64)), count)
+    }
+
+    fn list(&self, database: &[u8], name: &[u8], out: &mut [u8], records: &mut u64) -> u32 {
+        accepted(reference::list(database, name, out), records)
+    }
+
+    fn flat(&self, database: &[u8], name: &[u8], out: &mut [u8], count: &mut u64) -> u32 {
+        accepted(reference::flat(database, name, out), count)
+    }
+
+    fn send(
+        &self,
+        command: &[u8],
+        lines: u64,
+        speed: u64,
+        pad: u8,
+        out: &mut [u8],
+        count: &mut u64,
+    ) -> u32 {
+        accepted(reference::send(command, lines, speed, pad, out), count)
+    }
+
+    fn send_at(
+        &self,
+        command: &[u8],
+        position: Position,
+        lines: u64,
+        speed: u64,
+        pad: u8,
+        out: &mut [u8],
+        count: &mut u64,
+    ) -> u32 {
+        accepted(reference::send_at(command, position, lines, speed, pad, out), count)
+    }
+}
