@@ -5,7 +5,7 @@ use Prim.Native.Nat.{ℕ, zero, suc, _+_, _≤_, _<_}
 use native.Mathlib.Numerals.{add-one}
 use native.Mathlib.Omega.{arith}
 use lib.ListN.{length, take, getD, set, length-append}
-use lib.Seq.{sets, length-sets, length-take-le, take-suc}
+use lib.Seq.{sets, length-take-le, take-suc}
 use Rattle.spec.specs.Position.{compensation, repeated}
 use Rattle.spec.specs.declared.position.Parameter.{Parameter}
 use Rattle.spec.specs.declared.position.Parameter.the-variants.{Column as OfColumn}

@@ -1,7 +1,7 @@
 -- `compensations::copy_at` meets its contract. The invariant: the first `i` bytes are stored. The measure is what is left of them. Assumes
 -- nothing.
 use Prim.Native.Nat.{_≤_, _-_}
-use mathlib.Core.Path.{_≡_, refl, _∙_, ap}
+use mathlib.Core.Path.{_≡_, refl, _∙_}
 use native.Mathlib.Omega.{arith}
 use borrow.Author.Needs.{needs}
 use lib.ListN.{length, take}
