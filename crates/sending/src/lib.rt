@@ -4,6 +4,7 @@ ghost use mathlib.Core.Bool.{true};
 ghost use mathlib.Core.List.{_++_};
 ghost use Prim.Native.Nat.{_≤_, _<_};
 ghost use lib.ListN.{length, drop, replicate};
+ghost use lib.Seq.{sets};
 ghost use Rattle.spec.specs.Choice.{both};
 ghost use Rattle.spec.specs.Padding.{delayFor, padCount};
 ghost use Rattle.spec.specs.Position.{atPlace, fillIn};
@@ -110,7 +111,7 @@ fn write_pads(room: &mut [u8], count: usize, pad: u8)
 
 fn copy_front(bytes: &[u8], out: &mut [u8])
     requires { ⌜ length (now bytes) ≤ length (now out) ⌝ }
-    ensures { λ _. ⌜ now (out .exit) ≡ now (bytes .entry) ++ drop (length (now (bytes .entry))) (now (out .entry)) ⌝ }
+    ensures { λ _. ⌜ now (out .exit) ≡ sets (now (out .entry)) 0 (now (bytes .entry)) ⌝ }
 {
     let mut i = 0;
     while i < bytes.len() {
