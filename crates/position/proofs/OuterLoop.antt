@@ -10,7 +10,7 @@ use Rattle.position.proofs.StepLaws.{then-then, then-none, sets-append}
 use Rattle.position.specs.declared.Step.{Step}
 use Rattle.position.specs.declared.Step.the-variants.{Done, Fault, Paused}
 use Rattle.position.specs.declared.BodyEnd.the-variants.{At, Refused}
-use Rattle.spec.specs.Position.{Filled, filled, refused, then, plainOf}
+use Rattle.spec.specs.Position.{then, plainOf}
 use Rattle.position.specs.Filling.{unused, StepTaken, BodyFilled}
 use Rattle.spec.specs.declared.Refusal.{Refusal}
 use Rattle.spec.specs.declared.position.Raising.{Raising}
