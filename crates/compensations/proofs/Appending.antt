@@ -4,24 +4,24 @@ use mathlib.Core.List.{List, [], _∷_, _++_, append-assoc, append-nil}
 use Prim.Native.Nat.{ℕ, zero, suc, _+_, _≤_, _<_}
 use native.Mathlib.Numerals.{add-one}
 use native.Mathlib.Omega.{arith}
-use lib.ListN.{length, take, getD, set, length-append}
-use lib.Seq.{sets, length-sets, length-take-le, take-suc}
+use lib.ListN.{length, take, getD, set, length-append, drop-of-length-le}
+use lib.Seq.{sets, length-take-le, take-suc}
 use Rattle.spec.specs.Position.{compensation, repeated}
 use Rattle.spec.specs.declared.position.Parameter.{Parameter}
 use Rattle.spec.specs.declared.position.Parameter.the-variants.{Column as OfColumn}
 use Rattle.spec.specs.declared.position.Column.{Column}
-use Rattle.position.proofs.FillSteps.{is-empty, parts}
+use Rattle.position.proofs.FillSteps.{parts}
 use Rattle.position.proofs.StepLaws.{sets-append}
 use Rattle.compensations.specs.Appending.{BytesAppended}
 use Rattle.compensations.specs.declared.Appended.{Appended}
 use Rattle.compensations.specs.declared.Appended.the-variants.{Until, NoRoom}
 
-pub copied-more : (s out : List ℕ) (at i : ℕ) → i < length s → set (sets out at (take i s)) (at + i) (getD s i 0) ≡ sets out at (take (i + 1) s)
-copied-more s out at i h =
+pub copied-more : (s out : List ℕ) (at i p : ℕ) → p ≡ at + i → i < length s → set (sets out at (take i s)) p (getD s i 0) ≡ sets out at (take (i + 1) s)
+copied-more s out at i p e h =
     let inside : i ≤ length s = omega arith in
-    let place : at + i ≡ at + length (take i s) = rw (length-take-le i s inside) in
+    let place : p ≡ at + length (take i s) = rw (length-take-le i s inside) e in
     let grown : take i s ++ getD s i 0 ∷ [] ≡ take (i + 1) s = rw (add-one, take-suc s i 0) in
-    sets-append out at (at + i) (take i s) (getD s i 0 ∷ []) place ∙ ap (sets out at) grown
+    sets-append out at p (take i s) (getD s i 0 ∷ []) place ∙ ap (sets out at) grown
 
 -- ---- one piece, and then another
 
@@ -81,7 +81,7 @@ module _ (l : List ℕ) (capacity : ℕ) (out₀ : List ℕ) (at count : ℕ) wh
 
 module _ (back up : List ℕ) (p : Parameter) (c : Column) (e : p ≡ OfColumn c) where
   pub empty-back : length back ≡ 0 → compensation back up p ≡ 8 ∷ []
-  empty-back h = ap (compensation back up) e ∙ rw (is-empty back h)
+  empty-back h = ap (compensation back up) e ∙ rw (drop-of-length-le back {i = 0} (omega arith))
 
   pub given-back : (length back ≡ 0 → ⊥) → compensation back up p ≡ back
   given-back h = ap (compensation back up) e ∙ rw (parts back h)

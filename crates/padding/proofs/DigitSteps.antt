@@ -4,20 +4,15 @@ use mathlib.Core.Bool.{true, false}
 use mathlib.Core.List.{List, [], _∷_}
 use Prim.Native.Nat.{ℕ, suc, _+_, _-_, _*_, _^_, _≤_, _<_}
 use native.Mathlib.Nat.{pow-suc, pow-le-pow-right}
-use native.Mathlib.Numerals.{add-one}
 use native.Mathlib.Omega.{arith}
 use borrow.Author.Tests.{leb-true, ltb-true}
 use lib.Dec.{leb, ltb}
 use lib.ListN.{length, drop, getD, drop-of-length-le}
-use lib.Seq.{drop-cons}
 use Rattle.spec.specs.Digits.{isDigit, value, valueFrom, leading}
 use Rattle.spec.proofs.Tests.{both-true}
+use Rattle.spec.proofs.TextSteps.{drop-next}
 use Rattle.spec.proofs.LeadingDigits.{leading-digit, leading-other}
 use Rattle.padding.specs.Reading.{DigitsRead}
-
--- the list from a place on, by its first element; `i + 1` is the code's
-pub drop-next : (s : List ℕ) (i : ℕ) → i < length s → drop i s ≡ getD s i 0 ∷ drop (i + 1) s
-drop-next s i h = rw (add-one, drop-cons s i 0)
 
 lead-end : (s : List ℕ) (i : ℕ) → length s ≤ i → leading 10 (drop i s) ≡ []
 unfolding leading

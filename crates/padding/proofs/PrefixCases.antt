@@ -12,10 +12,10 @@ use Rattle.spec.specs.Digits.{value, valueFrom, leading, trailing}
 use Rattle.spec.specs.Padding.{split, refused, tenths, starred, pastStar, pastDigits, prefixOf}
 use Rattle.spec.specs.declared.Refusal.the-variants.{BadPadding as Bad}
 use Rattle.spec.proofs.LeadingDigits.{trailing-drop}
+use Rattle.spec.proofs.TextSteps.{drop-next}
 use Rattle.padding.specs.Reading.{PrefixRead, StarRead, DigitsRead}
 use Rattle.padding.specs.declared.Prefix.{Prefix}
 use Rattle.padding.specs.declared.Prefix.the-variants.{Split, BadPadding}
-use Rattle.padding.proofs.DigitSteps.{drop-next}
 
 -- ---- the star
 
@@ -29,10 +29,6 @@ pub star-end : (s : List ℕ) (at delay : ℕ) → at ≤ length s → length s 
 star-end s at delay l h = let d = drop-of-length-le s h in (refl, rw d, rw d, l)
 
 -- ---- the prefix, by what was read
-
-no-digits : (l : List ℕ) → length l ≡ 0 → l ≡ []
-no-digits [] e = refl
-no-digits (c ∷ l) e = absurd (omega arith)
 
 some-digits : (l : List ℕ) → 0 < length l → isEmpty l ≡ false
 some-digits [] h = absurd (omega arith)
@@ -84,7 +80,7 @@ past-tenth n m s t u e k v b = rw (e, k, v, some-digits (leading 10 t) (omega ar
 module _ (cmd : List ℕ) (n end : ℕ) (d : DigitsRead cmd 0 n end) where
   pub prefix-none : end ≡ 0 → PrefixRead cmd (Split 0 false 0)
   unfolding prefixOf
-  prefix-none e = let k = read-count cmd 0 n end d (omega arith) in (rw (no-digits (leading 10 cmd) (omega arith)), omega arith)
+  prefix-none e = let k = read-count cmd 0 n end d (omega arith) in (rw (drop-of-length-le (leading 10 cmd) {i = 0} (omega arith)), omega arith)
 
   pub prefix-many : 4 < end → PrefixRead cmd BadPadding
   unfolding prefixOf
@@ -125,7 +121,7 @@ module _ (cmd : List ℕ) (n end : ℕ) (d : DigitsRead cmd 0 n end) where
       pub prefix-point : to ≡ end + 1 → PrefixRead cmd (Split (10 * n) false end)
       prefix-point t =
           let k = read-count cmd (end + 1) m to e (omega arith) in
-          (past ∙ past-point n (drop end cmd) (drop (end + 1) cmd) point (no-digits (leading 10 (drop (end + 1) cmd)) (omega arith)), omega arith)
+          (past ∙ past-point n (drop end cmd) (drop (end + 1) cmd) point (drop-of-length-le (leading 10 (drop (end + 1) cmd)) {i = 0} (omega arith)), omega arith)
 
       pub prefix-two : end + 2 < to → PrefixRead cmd BadPadding
       prefix-two t = past ∙ past-two n (drop end cmd) (drop (end + 1) cmd) point (omega (arith, e .counts))

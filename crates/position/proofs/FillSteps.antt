@@ -3,7 +3,7 @@ use mathlib.Core.Path.{_≡_, refl, ap, _∙_}
 use mathlib.Core.List.{List, [], _∷_}
 use Prim.Native.Nat.{ℕ, _-_, _≤_}
 use native.Mathlib.Omega.{arith}
-use lib.ListN.{length, take, drop, getD, length-drop}
+use lib.ListN.{length, take, drop, getD, length-drop, drop-of-length-le}
 use lib.Seq.{take-all}
 use borrow.Author.Tests.{eq-eqb, ne-eqb}
 use Rattle.spec.specs.Sequences.{readByte, perform, outputBytes}
@@ -20,29 +20,29 @@ use Rattle.spec.specs.declared.position.Progress.{Progress}
 use Rattle.spec.specs.declared.position.Progress.the-variants.{More, Whole, Unknown}
 use Rattle.spec.specs.declared.position.Effect.the-variants.{Gives, Refused}
 
--- What is left after the first byte, as `&command[1..]` has it.
-abbrev pub rest : List ℕ → List ℕ
-rest s = take (length s - 1) (drop 1 s)
+-- The part of a list from a place on, as `&s[from..]` has it.
+abbrev pub part : List ℕ → ℕ → List ℕ
+part s from = take (length s - from) (drop from s)
 
-pub rest-is : (s : List ℕ) → rest s ≡ drop 1 s
-rest-is s = let l : length (drop 1 s) ≤ length s - 1 = rw length-drop (omega arith) in take-all (length s - 1) (drop 1 s) l
+pub part-is : (s : List ℕ) (from : ℕ) → part s from ≡ drop from s
+part-is s from = let l : length (drop from s) ≤ length s - from = rw length-drop (omega arith) in take-all (length s - from) (drop from s) l
+
+-- What is left after the first byte.
+abbrev pub rest : List ℕ → List ℕ
+rest s = part s 1
 
 pub rest-length : (s : List ℕ) → length (rest s) ≡ length s - 1
-rest-length s = rw (rest-is s, length-drop)
+rest-length s = rw (part-is s 1, length-drop)
 
 -- A list that is not empty is its first element and what is left.
 pub parts : (s : List ℕ) → (length s ≡ 0 → ⊥) → s ≡ getD s 0 0 ∷ rest s
 parts [] n = absurd (n refl)
-parts (x ∷ s) n = rw (rest-is (x ∷ s))
-
-pub is-empty : (s : List ℕ) → length s ≡ 0 → s ≡ []
-is-empty [] e = refl
-is-empty (x ∷ s) e = absurd (omega arith)
+parts (x ∷ s) n = rw (part-is (x ∷ s) 1)
 
 module _ (s : List ℕ) (g : Raising) (ps : Parameters) where
   pub plain-none : length s ≡ 0 → plainOf s g ps ≡ filled [] ps
   unfolding plainOf
-  plain-none e = ap (λ (l : List ℕ). plainOf l g ps) (is-empty s e)
+  plain-none e = ap (λ (l : List ℕ). plainOf l g ps) (drop-of-length-le s {i = 0} (omega arith))
 
   module _ (n : length s ≡ 0 → ⊥) where
     pub plain-sign : getD s 0 0 ≡ 37 → plainOf s g ps ≡ percentOf (rest s) Letter g ps
@@ -57,7 +57,7 @@ module _ (s : List ℕ) (g : Raising) (ps : Parameters) where
   module _ (w : Pending) where
     pub percent-none : length s ≡ 0 → percentOf s w g ps ≡ refused UnknownSequence
     unfolding plainOf
-    percent-none e = ap (λ (l : List ℕ). percentOf l w g ps) (is-empty s e)
+    percent-none e = ap (λ (l : List ℕ). percentOf l w g ps) (drop-of-length-le s {i = 0} (omega arith))
 
     module _ (n : length s ≡ 0 → ⊥) where
       pub percent-read : (r : Progress) → r ≡ readByte w (getD s 0 0)

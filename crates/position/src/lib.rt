@@ -17,8 +17,8 @@ use spec::position::Pending;
 use spec::position::Progress;
 use spec::position::Raising;
 
-// How deep the plain step and the percent step may call each other, so that the stack does not grow with the command.
-const DEPTH: usize = 63;
+// How many steps may be nested, of four calls each at most (`%>xy`), so that the stack does not grow with the command.
+const DEPTH: usize = 15;
 
 // ---- writing: a store past the buffer's end is no store, so that with an empty part of the buffer the same code only measures
 

@@ -1,23 +1,15 @@
--- A copy to the front of a list, and a tail that was lent and came back. Assumes nothing.
-use mathlib.Core.Path.{_≡_, refl, ap}
-use mathlib.Core.List.{List, [], _∷_, _++_, append-assoc, append-nil}
-use Prim.Native.Nat.{ℕ, zero, suc, _+_, _-_, _<_, _≤_}
-use native.Mathlib.Nat.{not-suc-le-zero, le-of-suc-le-suc}
-use native.Mathlib.Numerals.{add-one}
+-- Bytes at the front of a buffer, and its tail, which was lent and came back. Assumes nothing.
+use mathlib.Core.Path.{_≡_, _∙_}
+use mathlib.Core.List.{List, _++_, append-assoc, append-nil}
+use Prim.Native.Nat.{ℕ, _+_, _-_, _≤_}
 use native.Mathlib.Omega.{arith}
-use lib.ListN.{length, take, drop, getD, set, replicate, length-append, drop-of-length-le}
-use lib.Seq.{take-at, drop-at, take-all, drop-drop}
+use lib.ListN.{length, take, drop, replicate, length-append, drop-of-length-le}
+use lib.Seq.{sets, sets-eq, take-at, drop-at, take-all, drop-drop}
 use borrow.Rule.Slice.PartMut.{putMid}
 
-copy-suc : (j : ℕ) (s d : List ℕ) → j < length s → j < length d → set (take j s ++ drop j d) j (getD s j 0) ≡ take (suc j) s ++ drop (suc j) d
-copy-suc j [] d l k = absurd (not-suc-le-zero l)
-copy-suc j (x ∷ s) [] l k = absurd (not-suc-le-zero k)
-copy-suc zero (x ∷ s) (y ∷ d) l k = refl
-copy-suc (suc j) (x ∷ s) (y ∷ d) l k = ap (λ (t : List ℕ). x ∷ t) (copy-suc j s d (le-of-suc-le-suc l) (le-of-suc-le-suc k))
-
--- One more byte is copied to the front.
-pub copy-more : (j : ℕ) (s d : List ℕ) → j < length s → j < length d → set (take j s ++ drop j d) j (getD s j 0) ≡ take (j + 1) s ++ drop (j + 1) d
-copy-more j s d l k = rw add-one (copy-suc j s d l k)
+-- Bytes that are written at the front.
+pub set-front : (l out : List ℕ) (n : ℕ) → length l ≡ n → n ≤ length out → sets out 0 l ≡ l ++ drop n out
+set-front l out n e h = let place : 0 + length l ≡ n = omega arith in sets-eq l out 0 (omega arith) ∙ rw place
 
 -- The tail of front ++ drop n d was lent, and came back as p and then what was behind it.
 pub tail-back : (front d p : List ℕ) (n m : ℕ) → length front ≡ n → n ≤ length d

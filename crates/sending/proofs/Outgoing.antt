@@ -2,29 +2,21 @@
 use mathlib.Core.Path.{_≡_, refl, sym, ap, subst}
 use mathlib.Core.Bool.{Bool, true, false}
 use mathlib.Core.List.{List, _++_}
-use Prim.Native.Nat.{ℕ, _-_, _≤_, _<_}
-use native.Mathlib.Omega.{arith}
-use lib.ListN.{length, take, drop, replicate, length-drop}
-use lib.Seq.{take-all}
+use Prim.Native.Nat.{ℕ, _<_}
+use lib.ListN.{drop, replicate}
 use Rattle.spec.specs.Choice.{pick, both}
 use Rattle.spec.specs.Padding.{Prefix, Split, prefixOf, delayFor, padCount}
 use Rattle.spec.specs.Position as Position
 use Rattle.spec.specs.Position.{body, fault, fillIn}
 use Rattle.spec.specs.Sending.{Prepared, refused, copied, withBytes, filledIn, prepared, preparedAt, sends, stops, padsOf, padded, goodSpeed, goodPlace, outgoing, outgoingAt}
 use Rattle.spec.proofs.PaddingLaws.{Splits, delay-below}
+use Rattle.position.proofs.FillSteps.{part, part-is}
 use Rattle.padding.specs.Reading.{PrefixRead}
 use Rattle.padding.specs.declared.Prefix.the-variants.{Split as SplitAt}
 use Rattle.sending.specs.Steps.{CommandJudged, withPads}
 use Rattle.sending.specs.declared.Judged.the-variants.{Body, Refused}
 use Rattle.spec.specs.declared.Refusal.{Refusal}
 use Rattle.spec.specs.declared.Refusal.the-variants.{OutOfRange}
-
--- The part of a command from a place on, as `&command[from..]` has it.
-abbrev part : List ℕ → ℕ → List ℕ
-part s from = take (length s - from) (drop from s)
-
-part-is : (s : List ℕ) (from : ℕ) → part s from ≡ drop from s
-part-is s from = let l : length (drop from s) ≤ length s - from = rw length-drop (omega arith) in take-all (length s - from) (drop from s) l
 
 pub delay-small : (cmd : List ℕ) (delay : ℕ) (star : Bool) (from : ℕ) → PrefixRead cmd (SplitAt delay star from) → delay < 100000
 delay-small cmd delay star from r = subst (Splits (λ (p : Split). p .delay < 100000)) (r .0) (delay-below cmd)

@@ -1,10 +1,10 @@
 -- The pass that measures, and the pass that writes. Assumes nothing.
-use mathlib.Core.Path.{_≡_, refl, sym, ap, _∙_}
-use mathlib.Core.List.{List, [], _∷_, _++_}
-use Prim.Native.Nat.{ℕ, _+_, _≤_, _<_}
+use mathlib.Core.Path.{_≡_, sym, ap, _∙_}
+use mathlib.Core.List.{List, _++_}
+use Prim.Native.Nat.{ℕ, _≤_}
 use native.Mathlib.Omega.{arith}
-use lib.ListN.{length, drop, replicate}
-use lib.Seq.{sets, sets-eq}
+use lib.ListN.{length, drop, replicate, drop-of-length-le}
+use lib.Seq.{sets}
 use Rattle.spec.specs.Position.{Body, body, fault}
 use Rattle.spec.specs.Sending.{sends, stops}
 use Rattle.spec.specs.declared.Refusal.{Refusal}
@@ -12,11 +12,11 @@ use Rattle.compensations.specs.Appending.{BodyFilledIn}
 use Rattle.compensations.specs.declared.FilledIn.{FilledIn}
 use Rattle.compensations.specs.declared.FilledIn.the-variants.{Until as FilledUntil, NoRoom as NoRoomToFill, Fault}
 use Rattle.sending.specs.Steps.{withPads}
+use Rattle.sending.proofs.LentTail.{set-front}
 
 -- An empty part that was lent comes back empty.
 pub kept-empty : (ys out : List ℕ) → length ys ≡ 0 → ys ++ out ≡ out
-kept-empty [] out e = refl
-kept-empty (b ∷ ys) out e = absurd (omega arith)
+kept-empty ys out e = rw (drop-of-length-le ys {i = 0} (omega arith))
 
 module _ (t : Body) (pads pad : ℕ) where
   pub sends-fault : (r : Refusal) → t ≡ fault r → withPads t pads pad ≡ stops r
@@ -30,8 +30,7 @@ pub written : (t : Body) (l : List ℕ) (n : ℕ) (out : List ℕ) (r : FilledIn
     → BodyFilledIn t (length out) out r o → o ≡ l ++ drop n out
 written t l n out (FilledUntil end) o e k h f =
     let same : f .0 ≡ l = let b : body (f .0) ≡ body l = sym (f .1) ∙ e in cc in
-    let place : 0 + length l ≡ n = omega arith in
-    f .4 ∙ ap (sets out 0) same ∙ sets-eq l out 0 (omega arith) ∙ rw place
+    f .4 ∙ ap (sets out 0) same ∙ set-front l out n (sym k) h
 written t l n out NoRoomToFill o e k h f =
     let same : f .0 ≡ l = let b : body (f .0) ≡ body l = sym (f .1) ∙ e in cc in
     absurd (omega (arith, f .2, ap length same))

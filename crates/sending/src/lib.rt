@@ -4,6 +4,7 @@ ghost use mathlib.Core.Bool.{true};
 ghost use mathlib.Core.List.{_++_};
 ghost use Prim.Native.Nat.{_≤_, _<_};
 ghost use lib.ListN.{length, drop, replicate};
+ghost use lib.Seq.{sets};
 ghost use Rattle.spec.specs.Choice.{both};
 ghost use Rattle.spec.specs.Padding.{delayFor, padCount};
 ghost use Rattle.spec.specs.Position.{atPlace, fillIn};
@@ -94,7 +95,7 @@ fn judge(command: &[u8], in_range: bool, lines: u64, speed: u64) -> Judged
     }
 }
 
-// Writes pads into the start of the room that is left.
+// "The pads are written into the room that is left", which is lent to this.
 fn write_pads(room: &mut [u8], count: usize, pad: u8)
     requires { ⌜ count ≤ length (now room) ⌝ }
     ensures { λ _. ⌜ now (room .exit) ≡ replicate count pad ++ drop count (now (room .entry)) ⌝ }
@@ -110,7 +111,7 @@ fn write_pads(room: &mut [u8], count: usize, pad: u8)
 
 fn copy_front(bytes: &[u8], out: &mut [u8])
     requires { ⌜ length (now bytes) ≤ length (now out) ⌝ }
-    ensures { λ _. ⌜ now (out .exit) ≡ now (bytes .entry) ++ drop (length (now (bytes .entry))) (now (out .entry)) ⌝ }
+    ensures { λ _. ⌜ now (out .exit) ≡ sets (now (out .entry)) 0 (now (bytes .entry)) ⌝ }
 {
     let mut i = 0;
     while i < bytes.len() {
@@ -136,6 +137,7 @@ fn send_copied(bytes: &[u8], pads: usize, pad: u8, out: &mut [u8]) -> Written
     Written::Count(n + pads)
 }
 
+// Send: "body and padding".
 pub fn send(command: &[u8], lines: u64, speed: u64, pad: u8, out: &mut [u8]) -> Written
     ensures { λ r. ⌜ (r ≡ sendOutcome (now (command .entry)) lines speed pad (now (out .entry)) .answer)
         × (now (out .exit) ≡ sendOutcome (now (command .entry)) lines speed pad (now (out .entry)) .buffer) ⌝ }
@@ -160,7 +162,7 @@ fn at_place(row: u64, column: u64) -> Parameters
     )
 }
 
-// Measures with an empty part of the buffer; writes only once all is known to fit.
+// Two passes: the first measures with an empty part of the buffer, and the second writes, once all is known to fit.
 fn send_filled(
     body: &[u8],
     row: u64,
@@ -192,6 +194,7 @@ fn send_filled(
     }
 }
 
+// Send at "takes also a row, a column, a back string and an up string".
 pub fn send_at(
     command: &[u8],
     row: u64,

@@ -1,7 +1,7 @@
 -- `compensations::copy_at` meets its contract. The invariant: the first `i` bytes are stored. The measure is what is left of them. Assumes
 -- nothing.
 use Prim.Native.Nat.{_≤_, _-_}
-use mathlib.Core.Path.{_≡_, refl, _∙_, ap}
+use mathlib.Core.Path.{_≡_, refl, _∙_}
 use native.Mathlib.Omega.{arith}
 use borrow.Author.Needs.{needs}
 use lib.ListN.{length, take}
@@ -39,7 +39,7 @@ loop-again c =
     let l = c .before .before .before .before .before .before .loop in
     let a = c .before .before .before .before .before .before .before .before .before .args in
     let p = c .before .before .put-byte in
-    (omega arith, p .ensures ∙ rw (l .inv .1) (copied-more (a .bytes .now) (a .out .now) (a .at) (l .i) (omega arith)), p .kept .0 ∙ l .inv .2)
+    (omega arith, p .ensures ∙ rw (l .inv .1) (copied-more (a .bytes .now) (a .out .now) (a .at) (l .i) _ refl (omega arith)), p .kept .0 ∙ l .inv .2)
 
 same-length : tie.Need-same-length Inv-loop μ-loop
 same-length c = c .before .loop .inv .2

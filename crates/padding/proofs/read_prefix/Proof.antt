@@ -19,11 +19,10 @@ returns-2 : tie.Need-returns-2
 returns-2 c =
     let s = c .before .before .before .before .args .command .now in
     let d = c .before .before .read-digits in
-    prefix-many s (d .result .value) (d .result .end) (d .ensures) (c .if2 .taken)
+    prefix-many s (d .result .value) (d .result .end) (d .ensures) (omega arith)
 
 mul-delay : tie.Need-mul-delay
 mul-delay c =
-    let s = c .before .before .before .before .before .args .command .now in
     let d = c .before .before .before .read-digits in
     let v = value-small 0 (d .result .value) (d .result .end) (d .ensures .five) (d .ensures .below) in
     omega arith
@@ -73,11 +72,10 @@ returns-6 c =
     let d = c .before .before .before .before .before .before .before .before .before .read-digits in
     let e = c .before .before .read-digits2 in
     let w = d .ensures .within in
-    prefix-two s (d .result .value) (d .result .end) (d .ensures) (c .before .before .before .before .before .before .before .before .if1 .left) (omega arith) (e .result .value) (e .result .end) (omega arith) (c .before .before .before .if4 .left) (e .ensures) (c .if6 .taken)
+    prefix-two s (d .result .value) (d .result .end) (d .ensures) (c .before .before .before .before .before .before .before .before .if1 .left) (omega arith) (e .result .value) (e .result .end) (omega arith) (c .before .before .before .if4 .left) (e .ensures) (omega arith)
 
 add-read-star : tie.Need-add-read-star
 add-read-star c =
-    let s = c .before .before .before .before .before .before .before .before .before .before .before .before .args .command .now in
     let d = c .before .before .before .before .before .before .before .before .before .before .read-digits in
     let e = c .before .before .before .read-digits2 in
     let v = value-small 0 (d .result .value) (d .result .end) (d .ensures .five) (d .ensures .below) in

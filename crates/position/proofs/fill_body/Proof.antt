@@ -3,7 +3,7 @@
 use borrow.Author.Needs.{needs}
 use native.Mathlib.Omega.{arith}
 use mathlib.Core.Path.{_∙_}
-use Rattle.position.proofs.OuterLoop.{FilledSoFar, good-first, part-length, fill-done, fill-failed, fill-falls, fill-again}
+use Rattle.position.proofs.OuterLoop.{FilledSoFar, good-first, handed-length, fill-done, fill-failed, fill-falls, fill-again}
 use Rattle.position.proofs.fill_body.Statement.{statement}
 use Rattle.position.proofs.fill_body.Tie as tie
 
@@ -32,7 +32,7 @@ plain-requires : tie.Need-plain-requires Inv-loop μ-loop
 plain-requires c κs =
     let a = c .before .before .before .before .before .args in
     let l = c .before .before .loop in
-    omega (arith, part-length (a .command .now) (a .g) (a .first) (a .out .now) (l .out) (l .left) (l .at) (l .ps) (l .inv), l .inv .below)
+    omega (arith, handed-length (a .command .now) (a .g) (a .first) (a .out .now) (l .out) (l .left) (l .at) (l .ps) (l .inv), l .inv .below)
 
 enum-known-step : tie.Need-enum-known-step Inv-loop μ-loop
 enum-known-step c = search needs
@@ -75,7 +75,7 @@ loop-again c =
     let a = c .before .before .before .before .before .before .before .before .before .before .before .args in
     let l = c .before .before .before .before .before .before .before .before .loop in
     let f = c .before .before .before .before .before .plain in
-    let k = part-length (a .command .now) (a .g) (a .first) (a .out .now) (l .out) (l .left) (l .at) (l .ps) (l .inv) in
+    let k = handed-length (a .command .now) (a .g) (a .first) (a .out .now) (l .out) (l .left) (l .at) (l .ps) (l .inv) in
     fill-again (a .command .now) (a .g) (a .first) (a .out .now) (l .out) (l .left) (l .at) (l .ps) (l .inv) _ (f .result) _ (f .ensures) _ _ _ (c .before .step3 .given .1) (f .kept .1 .1 .1 .0) (omega arith)
 
 pub fill-body-spec : {M : Type 1} → statement M

@@ -1,5 +1,5 @@
 -- `send_cases::field` meets its contract. The invariant: the place lies in the line. The measure is the number of bars to go. Assumes nothing.
-use Prim.Native.Nat.{_≤_, _<_, _-_}
+use Prim.Native.Nat.{_≤_, _-_}
 use native.Mathlib.Omega.{arith}
 use borrow.Author.Needs.{needs}
 use lib.ListN.{length}

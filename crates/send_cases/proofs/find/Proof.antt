@@ -1,7 +1,6 @@
 -- `send_cases::find` meets its contract. The invariant: `i` lies from `at` to the end. The measure is what is left of the text. Assumes nothing.
-use Prim.Native.Nat.{_≤_, _<_, _-_}
+use Prim.Native.Nat.{_≤_, _-_}
 use native.Mathlib.Omega.{arith}
-use borrow.Author.Needs.{needs}
 use lib.ListN.{length}
 use Rattle.send_cases.proofs.find.Statement.{statement}
 use Rattle.send_cases.proofs.find.Tie as tie

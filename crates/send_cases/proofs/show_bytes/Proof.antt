@@ -1,5 +1,5 @@
 -- `send_cases::show_bytes` is safe and ends. The measure is what is left of the buffer. Assumes nothing.
-use Prim.Native.Nat.{_≤_, _<_, _-_}
+use Prim.Native.Nat.{_≤_, _-_}
 use native.Mathlib.Omega.{arith}
 use borrow.Author.Needs.{needs}
 use lib.ListN.{length}

@@ -1,5 +1,5 @@
 -- `send_cases::text` meets its contract. The invariant: the count lies within the buffer. The measure is what is left of the field. Assumes nothing.
-use Prim.Native.Nat.{_≤_, _<_, _-_}
+use Prim.Native.Nat.{_≤_, _-_}
 use native.Mathlib.Omega.{arith}
 use borrow.Author.Needs.{needs}
 use lib.ListN.{length, length-set}

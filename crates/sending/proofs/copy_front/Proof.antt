@@ -1,16 +1,16 @@
--- `sending::copy_front` meets its contract. The invariant: the first i bytes are those to be copied, the others as they were. Assumes nothing.
+-- `sending::copy_front` meets its contract. The invariant: the first `i` bytes are stored. The measure is what is left of them. Assumes
+-- nothing.
 use mathlib.Core.Path.{_≡_, refl, _∙_}
-use mathlib.Core.List.{_++_}
 use Prim.Native.Nat.{_≤_, _-_}
 use native.Mathlib.Omega.{arith}
-use lib.ListN.{length, take, drop, length-set}
-use lib.Seq.{take-length}
-use Rattle.sending.proofs.LentTail.{copy-more}
+use lib.ListN.{length, take, length-set}
+use lib.Seq.{sets, take-length}
+use Rattle.compensations.proofs.Appending.{copied-more}
 use Rattle.sending.proofs.copy_front.Statement.{statement}
 use Rattle.sending.proofs.copy_front.Tie as tie
 
 abbrev Inv-loop : tie.InvT-loop
-Inv-loop bytes out₀ i₀ out i = (i ≤ length bytes) × (out ≡ take i bytes ++ drop i out₀) × (length out ≡ length out₀)
+Inv-loop bytes out₀ i₀ out i = (i ≤ length bytes) × (out ≡ sets out₀ 0 (take i bytes)) × (length out ≡ length out₀)
 
 abbrev μ-loop : tie.MeasureT-loop
 μ-loop bytes out₀ i₀ out i = length bytes - i
@@ -35,7 +35,7 @@ loop-again c =
     let l = c .before .before .loop in
     let a = c .before .before .before .args in (
       omega arith,
-      rw (l .inv .1) (copy-more (l .i) (a .bytes .now) (a .out .now) (omega arith) (omega arith)),
+      rw (l .inv .1) (copied-more (a .bytes .now) (a .out .now) 0 (l .i) (l .i) (omega arith) (omega arith)),
       simp length-set (l .inv .2),
     )
 

@@ -1,8 +1,8 @@
 -- `sending::send_copied` meets its contract: the tail that was lent to the pad writer comes back after the copied bytes. Assumes nothing.
-use mathlib.Core.Path.{refl}
+use mathlib.Core.Path.{refl, _∙_}
 use native.Mathlib.Omega.{arith}
 use borrow.Author.Needs.{needs}
-use Rattle.sending.proofs.LentTail.{after-pads}
+use Rattle.sending.proofs.LentTail.{set-front, after-pads}
 use Rattle.sending.proofs.Delivery.{too-long, fits}
 use Rattle.sending.proofs.send_copied.Statement.{statement}
 use Rattle.sending.proofs.send_copied.Tie as tie
@@ -47,7 +47,7 @@ returns-3 c =
     let f = c .before .before .before .before .before .before .copy-front in
     let p = c .before .before .write-pads in
     fits (a .bytes .now) (a .out .now) _ (a .pads) (a .pad) refl (omega arith) _
-    (after-pads (a .bytes .now) (a .out .now) (f .last .1 .0) (p .last .0) _ (a .pads) (a .pad) refl (omega arith) (f .ensures) (p .ensures))
+    (after-pads (a .bytes .now) (a .out .now) (f .last .1 .0) (p .last .0) _ (a .pads) (a .pad) refl (omega arith) (f .ensures ∙ set-front (a .bytes .now) (a .out .now) _ refl (omega arith)) (p .ensures))
 
 pub send-copied-spec : {M : Type 1} → statement M
 send-copied-spec =

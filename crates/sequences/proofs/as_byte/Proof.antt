@@ -1,8 +1,9 @@
 -- `sequences::as_byte` meets its contract, by its two tests of the sum. Assumes nothing.
-use Prim.Native.Nat.{_+_, _<_}
+use Prim.Native.Nat.{_+_, _-_, _≤_, _<_}
 use Rattle.spec.specs.Values.{held}
 use borrow.Author.Tests.{le-leb, lt-leb, lt-ltb, le-ltb}
 use borrow.Author.Needs.{needs}
+use native.Mathlib.Omega.{arith}
 use Rattle.sequences.proofs.as_byte.Statement.{statement}
 use Rattle.sequences.proofs.as_byte.Tie as tie
 
@@ -24,7 +25,7 @@ returns-2 : tie.Need-returns-2
 returns-2 c =
     let e = c .before .before .held-value .ensures in
     let l = rw e at (c .before .if1 .left) in
-    let h = rw e at (c .if2 .taken) in
+    let h : 256 ≤ held (c .before .before .before .args .p) + c .before .before .before .args .c - 32768 = omega (arith, rw e at (c .if2 .taken)) in
     rw (le-leb _ _ l, le-ltb _ _ h)
 
 cast-byte-for : tie.Need-cast-byte-for
