@@ -178,9 +178,8 @@ pub fn show_bytes(buffer: &[u8]) {
     }
 }
 
-// A case whose answer is a count: its line's number, the answer, and the buffer afterwards.
-pub fn show(n: u64, answer: Written, buffer: &[u8]) {
-    io::print_decimal(1, n);
+// A count or a refusal, and the buffer afterwards.
+pub fn show_written(answer: Written, buffer: &[u8]) {
     show_answer(answer);
     io::write_all(1, b":");
     show_bytes(buffer);

@@ -8,7 +8,7 @@ use case_lines::byte;
 use case_lines::find;
 use case_lines::number;
 use case_lines::room;
-use case_lines::show;
+use case_lines::show_written;
 use case_lines::text;
 use spec::Written;
 
@@ -46,12 +46,14 @@ fn call_send(line: &[u8], out: &mut [u8]) -> Written {
 
 fn case_at(line: &[u8], n: u64, out: &mut [u8]) {
     let answer = call_at(line, out);
-    show(n, answer, out);
+    io::print_decimal(1, n);
+    show_written(answer, out);
 }
 
 fn case_send(line: &[u8], n: u64, out: &mut [u8]) {
     let answer = call_send(line, out);
-    show(n, answer, out);
+    io::print_decimal(1, n);
+    show_written(answer, out);
 }
 
 fn run_line(line: &[u8], n: u64) {
