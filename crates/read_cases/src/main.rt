@@ -147,24 +147,6 @@ fn case_flat(db: &[u8], name: &[u8], out: &mut [u8]) {
     show_written(answer, out);
 }
 
-fn ask_string(line: &[u8], db: &[u8], name: &[u8], id: &[u8]) {
-    let mut out = [255u8; 64];
-    let most = room(line, 3);
-    case_string(db, name, id, &mut out[..most]);
-}
-
-fn ask_list(line: &[u8], db: &[u8], name: &[u8]) {
-    let mut out = [255u8; 64];
-    let most = room(line, 2);
-    case_list(db, name, &mut out[..most]);
-}
-
-fn ask_flat(line: &[u8], db: &[u8], name: &[u8]) {
-    let mut out = [255u8; 64];
-    let most = room(line, 2);
-    case_flat(db, name, &mut out[..most]);
-}
-
 fn is_case(b: u8) -> bool {
     match b {
         b'p' | b's' | b'f' | b'n' | b'S' | b'L' | b'F' => true,
@@ -172,16 +154,31 @@ fn is_case(b: u8) -> bool {
     }
 }
 
-fn ask(operation: u8, line: &[u8], db: &[u8], name: &[u8], id: &[u8]) {
+fn case_room(operation: u8, line: &[u8]) -> usize
+    ensures { λ r. ⌜ r ≤ 64 ⌝ }
+{
+    if operation == b'S' {
+        return room(line, 3);
+    }
+    room(line, 2)
+}
+
+fn ask(operation: u8, db: &[u8], name: &[u8], id: &[u8], out: &mut [u8]) {
     match operation {
         b'p' => case_part(db, name),
         b's' => case_show(db, name),
         b'f' => case_flag(db, name, id),
         b'n' => case_number(db, name, id),
-        b'S' => ask_string(line, db, name, id),
-        b'L' => ask_list(line, db, name),
-        _ => ask_flat(line, db, name),
+        b'S' => case_string(db, name, id, out),
+        b'L' => case_list(db, name, out),
+        _ => case_flat(db, name, out),
     }
+}
+
+fn ask_in_room(operation: u8, line: &[u8], db: &[u8], name: &[u8], id: &[u8]) {
+    let mut out = [255u8; 64];
+    let most = case_room(operation, line);
+    ask(operation, db, name, id, &mut out[..most]);
 }
 
 fn run_case(operation: u8, line: &[u8], n: u64, db: &[u8]) {
@@ -193,7 +190,7 @@ fn run_case(operation: u8, line: &[u8], n: u64, db: &[u8]) {
     let k = text(line, 1, &mut name);
     let m = text(line, 2, &mut id);
     io::print_decimal(1, n);
-    ask(operation, line, db, &name[..k], &id[..m]);
+    ask_in_room(operation, line, db, &name[..k], &id[..m]);
 }
 
 // Answers how much of the space the database takes then.
