@@ -228,9 +228,14 @@ fn run(cases: &[u8], space: &mut [u8]) {
     }
 }
 
+// The space is lent with its length in its type: to count up so many zeros is too deep for the checker.
+fn run_in(cases: &[u8], space: &mut [u8; 1048577]) {
+    run(cases, space);
+}
+
 fn main() {
     let mut cases = [0u8; 16384];
     let mut space = [0u8; 1048577];
     let n = io::read_full(0, &mut cases);
-    run(&cases[..n], &mut space);
+    run_in(&cases[..n], &mut space);
 }
