@@ -1,10 +1,10 @@
--- `send_cases::field` meets its contract. The invariant: the place lies in the line. The measure is the number of bars to go. Assumes nothing.
-use Prim.Native.Nat.{_≤_, _-_}
+-- `case_lines::field` meets its contract. The invariant: the place lies in the line. The measure is the number of bars to go. Assumes nothing.
+use Prim.Native.Nat.{_≤_, _<_, _-_}
 use native.Mathlib.Omega.{arith}
 use borrow.Author.Needs.{needs}
 use lib.ListN.{length}
-use Rattle.send_cases.proofs.field.Statement.{statement}
-use Rattle.send_cases.proofs.field.Tie as tie
+use Rattle.case_lines.proofs.field.Statement.{statement}
+use Rattle.case_lines.proofs.field.Tie as tie
 
 abbrev Inv-loop : tie.InvT-loop
 Inv-loop line k at₀ i₀ at i = at ≤ length line

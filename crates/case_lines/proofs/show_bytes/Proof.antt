@@ -1,10 +1,10 @@
--- `send_cases::show_bytes` is safe and ends. The measure is what is left of the buffer. Assumes nothing.
-use Prim.Native.Nat.{_≤_, _-_}
+-- `case_lines::show_bytes` is safe and ends. The measure is what is left of the buffer. Assumes nothing.
+use Prim.Native.Nat.{_≤_, _<_, _-_}
 use native.Mathlib.Omega.{arith}
 use borrow.Author.Needs.{needs}
 use lib.ListN.{length}
-use Rattle.send_cases.proofs.show_bytes.Statement.{statement}
-use Rattle.send_cases.proofs.show_bytes.Tie as tie
+use Rattle.case_lines.proofs.show_bytes.Statement.{statement}
+use Rattle.case_lines.proofs.show_bytes.Tie as tie
 
 abbrev Inv-loop : tie.InvT-loop
 Inv-loop buffer i₀ i = i ≤ length buffer

@@ -1,10 +1,10 @@
--- `send_cases::number` meets its contract. The invariant: the number has nine digits at most. The measure is what is left of the field. Assumes nothing.
+-- `case_lines::number` meets its contract. The invariant: the number has nine digits at most. The measure is what is left of the field. Assumes nothing.
 use Prim.Native.Nat.{_≤_, _<_, _-_}
 use native.Mathlib.Omega.{arith}
 use borrow.Author.Needs.{needs}
 use lib.ListN.{length}
-use Rattle.send_cases.proofs.number.Statement.{statement}
-use Rattle.send_cases.proofs.number.Tie as tie
+use Rattle.case_lines.proofs.number.Statement.{statement}
+use Rattle.case_lines.proofs.number.Tie as tie
 
 abbrev Inv-loop : tie.InvT-loop
 Inv-loop line k start end n₀ i₀ n i = (i ≤ length line) × (n < 1000000000) × (end ≤ length line)

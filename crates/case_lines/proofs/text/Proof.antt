@@ -1,11 +1,11 @@
--- `send_cases::text` meets its contract. The invariant: the count lies within the buffer. The measure is what is left of the field. Assumes nothing.
-use Prim.Native.Nat.{_≤_, _-_}
+-- `case_lines::text` meets its contract. The invariant: the count lies within the buffer. The measure is what is left of the field. Assumes nothing.
+use Prim.Native.Nat.{_≤_, _<_, _-_}
 use native.Mathlib.Omega.{arith}
 use borrow.Author.Needs.{needs}
 use lib.ListN.{length, length-set}
 use mathlib.Core.Path.{_≡_}
-use Rattle.send_cases.proofs.text.Statement.{statement}
-use Rattle.send_cases.proofs.text.Tie as tie
+use Rattle.case_lines.proofs.text.Statement.{statement}
+use Rattle.case_lines.proofs.text.Tie as tie
 
 abbrev Inv-loop : tie.InvT-loop
 Inv-loop line k out₀ start end i₀ n₀ out i n = (end ≤ length line) × (n ≤ length out) × (length out ≡ length out₀)

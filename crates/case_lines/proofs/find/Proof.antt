@@ -1,9 +1,10 @@
--- `send_cases::find` meets its contract. The invariant: `i` lies from `at` to the end. The measure is what is left of the text. Assumes nothing.
-use Prim.Native.Nat.{_≤_, _-_}
+-- `case_lines::find` meets its contract. The invariant: `i` lies from `at` to the end. The measure is what is left of the text. Assumes nothing.
+use Prim.Native.Nat.{_≤_, _<_, _-_}
 use native.Mathlib.Omega.{arith}
+use borrow.Author.Needs.{needs}
 use lib.ListN.{length}
-use Rattle.send_cases.proofs.find.Statement.{statement}
-use Rattle.send_cases.proofs.find.Tie as tie
+use Rattle.case_lines.proofs.find.Statement.{statement}
+use Rattle.case_lines.proofs.find.Tie as tie
 
 abbrev Inv-loop : tie.InvT-loop
 Inv-loop s at b i₀ i = (at ≤ i) × (i ≤ length s)
