@@ -60,11 +60,11 @@ L κs = T′.the-laws (namedLft 3 0 tt κs)
 abbrev stayed : Stays (flag.ended .signature .params) (flag.ended .kept)
 stayed = (stay-none B yes, (stay-none-slice (1 ∷ []) tt (plain (λ _. u8)) yes, (stay-none-slice (2 ∷ []) tt (plain (λ _. u8)) yes, tt)))
 
-abbrev slice : Lifetime → Ty
+abbrev pub slice : Lifetime → Ty
 slice ℓ = sliceTy (tyRef ℓ imm (tyInt w8))
 
 -- the MIR, with the name of the function that it calls
-abbrev pub code : Name → Fn
+abbrev code : Name → Fn
 code callee = record {
   lifetimes = 3;
   outlives = [];
