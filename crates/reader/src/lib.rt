@@ -1,11 +1,11 @@
-// "A database may be opened as a reader, which keeps it and serves Show, Flag and Number": answers and refusals are those of questions.
+// "An opened reader keeps the database it was opened on and serves Show, Flag and Number from it with equal answers and refusals; opening
+// itself refuses nothing." Each function is one call of `questions`.
 use spec::Answer;
 ghost use mathlib.Core.Path.{_≡_};
 ghost use Rattle.spec.specs.Answers.{shownOnPaper};
 ghost use Rattle.spec.specs.Questions.{showAnswer, flagAnswer, numberAnswer};
 ghost use Rattle.questions.specs.Answers.{shownBytes};
 
-// An opened database.
 pub struct Reader<'a> {
     pub db: &'a [u8],
 }
@@ -35,7 +35,7 @@ pub fn number<'a>(r: Reader<'a>, name: &[u8], id: &[u8]) -> Answer
     questions::number(r.db, name, id)
 }
 
-// From a database to the answer, by a reader of its own.
+// From a database to the answer, by a reader of its own: for callers that hold no reader.
 pub fn show_once<'a>(db: &'a [u8], name: &[u8], refusal: &mut u8) -> &'a [u8]
     ensures { λ p. ⌜ (now p ≡ shownBytes (now (db .entry)) (showAnswer (now (db .entry)) (now (name .entry))))
         × (now (refusal .exit) ≡ shownOnPaper (showAnswer (now (db .entry)) (now (name .entry))) .refusal) ⌝ }

@@ -29,11 +29,10 @@ use denote.Builtin.{u8}
 use denote.Ref.{RefT, MutRef, now, ptr-vals, mut-tells}
 use denote.Signature.{plain, namedLft}
 use denote.Slice.{sliceVal, ShrSlice, slice-vals, shr-slice-tells, shr-slice-lawful, shr-slice-copy}
-use denote.Steps.{peeks, heard, nothing}
+use denote.Steps.{peeks, heard}
 use denote.Struct.Declared.{Declared}
 use denote.Struct.Laws as LL
 use denote.Struct.Rest.{all-own, own-open}
-use denote.Struct.Values.{Values}
 use denote.Triple.Statement.{Contract, Triple}
 use denote.Triple.Call.{calls-at}
 use denote.Triple.Entry.{Vals, onEntry}
