@@ -1,0 +1,2 @@
+pub mod AnswerFromReader
+pub mod AnswerFromDatabase
