@@ -1,5 +1,5 @@
 // "An opened reader keeps the database it was opened on and serves Show, Flag and Number from it with equal answers and refusals; opening
-// itself refuses nothing." Each function is one call of `questions`.
+// itself refuses nothing." Show, Flag and Number are each one call of `questions`.
 use spec::Answer;
 ghost use mathlib.Core.Path.{_≡_};
 ghost use Rattle.spec.specs.Answers.{shownOnPaper};
