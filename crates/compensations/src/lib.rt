@@ -1,35 +1,22 @@
 // A body filled in, and the compensations after it, into a lent buffer. With an empty part of the buffer they are only measured, against
 // a capacity that is given.
 ghost use mathlib.Core.Path.{_≡_};
-ghost use Prim.Native.Nat.{_+_, _≤_, _<_, _^_};
-ghost use lib.ListN.{length};
-ghost use lib.Seq.{sets};
+ghost use Prim.Native.Nat.{_+_, _≤_, _<_};
 ghost use Rattle.spec.specs.Position.{plainOf, raisingFor, compensation, compensationsOf, compensations, compensated};
 ghost use Rattle.compensations.specs.Appending.{BytesAppended, BodyFilledIn};
 use position::BodyEnd;
 use position::fill_body;
-use position::put_byte;
 use spec::Refusal;
 use spec::position::Parameter;
 use spec::position::Parameters;
 use spec::position::Raising;
 use spec::position::Used;
+use stores::put_bytes;
 
 // The place after bytes that were appended, or no room for them.
 enum Appended {
     Until(usize),
     NoRoom,
-}
-
-fn copy_at(bytes: &[u8], out: &mut [u8], at: usize)
-    requires { ⌜ at + length (now bytes) < 2 ^ 64 ⌝ }
-    ensures { λ _. ⌜ now (out .exit) ≡ sets (now (out .entry)) at (now (bytes .entry)) ⌝ }
-{
-    let mut i = 0;
-    while i < bytes.len() {
-        put_byte(out, at + i, bytes[i]);
-        i += 1;
-    }
 }
 
 fn append(bytes: &[u8], capacity: usize, out: &mut [u8], at: usize) -> Appended
@@ -40,7 +27,7 @@ fn append(bytes: &[u8], capacity: usize, out: &mut [u8], at: usize) -> Appended
     if n > capacity - at {
         return Appended::NoRoom;
     }
-    copy_at(bytes, out, at);
+    put_bytes(out, at, bytes);
     Appended::Until(at + n)
 }
 

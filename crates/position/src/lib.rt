@@ -1,7 +1,7 @@
 // Filling in a position: a command's body for two parameters, into a lent buffer.
 ghost use mathlib.Core.Path.{_≡_};
 ghost use Prim.Native.Nat.{_+_, _<_, _^_};
-ghost use lib.ListN.{length, set};
+ghost use lib.ListN.{length};
 ghost use lib.Seq.{sets};
 ghost use Rattle.spec.specs.Digits.{spell, Fewest};
 ghost use Rattle.spec.specs.Sequences.{outputBytes};
@@ -16,19 +16,12 @@ use spec::position::Parameters;
 use spec::position::Pending;
 use spec::position::Progress;
 use spec::position::Raising;
+use stores::put_byte;
 
 // How many steps may be nested, of four calls each at most (`%>xy`), so that the stack does not grow with the command.
 const DEPTH: usize = 15;
 
 // ---- writing: a store past the buffer's end is no store, so that with an empty part of the buffer the same code only measures
-
-pub fn put_byte(out: &mut [u8], at: usize, b: u8)
-    ensures { λ _. ⌜ now (out .exit) ≡ set (now (out .entry)) at b ⌝ }
-{
-    if at < out.len() {
-        out[at] = b;
-    }
-}
 
 // How many digits a number has; none for 0.
 fn digits_in(n: u16) -> usize

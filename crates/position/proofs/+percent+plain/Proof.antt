@@ -18,7 +18,7 @@ use Rattle.position.proofs.plain.Reads as plain
 use Rattle.position.proofs.plain.Kinds as plain-kinds
 use Rattle.position.proofs.+percent+plain.Lts-plain as plain-lts
 use Rattle.sequences.proofs.perform.Reads as perform-reads
-use Rattle.position.proofs.put_byte.Reads as put-byte-reads
+use Rattle.stores.proofs.put_byte.Reads as put-byte-reads
 use Rattle.sequences.proofs.read_byte.Reads as read-byte-reads
 use Rattle.position.proofs.write_output.Reads as write-output-reads
 use Rattle.position.proofs.+percent+plain.{statement}
