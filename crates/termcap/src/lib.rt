@@ -1,16 +1,19 @@
-// The library as C and Rust call it: the operations of document 01, each with its result as a number. A slice passes as a pointer and a
-// length.
-use listing::flat;
-use listing::list;
-use questions::flag;
-use questions::number;
-use questions::show_part;
-use questions::string;
-use sending::send;
-use sending::send_at;
-use spec::Answer;
-use spec::Shown;
-use spec::Written;
+// The library in one place: the operations of document 01 with their answers, and the C functions, which give each result as a number. A
+// slice passes to C as a pointer and a length. (The opened reader is the crate `reader`.)
+pub use listing::flat;
+pub use listing::list;
+pub use questions::flag;
+pub use questions::number;
+pub use questions::show;
+pub use questions::show_part;
+pub use questions::string;
+pub use sending::send;
+pub use sending::send_at;
+pub use spec::Answer;
+pub use spec::Kind;
+pub use spec::Refusal;
+pub use spec::Shown;
+pub use spec::Written;
 ghost use mathlib.Core.Path.{_≡_};
 ghost use Rattle.spec.specs.Questions.{showAnswer, flagAnswer, numberAnswer, stringOutcome};
 ghost use Rattle.spec.specs.Listing.{listOutcome, flatOutcome};
