@@ -2,7 +2,7 @@
 use fields::Judged;
 use fields::copy_field;
 use fields::judge_line;
-use lines::find_line;
+use name_search::find_line;
 use spec::Found;
 use spec::Refusal;
 ghost use mathlib.Core.Path.{_≡_};

@@ -7,17 +7,12 @@ use Rattle.lines.specs.declared.Step.{Step}
 use Rattle.lines.specs.declared.Step.the-variants.{Byte, End}
 use Rattle.lines.specs.declared.Next.{Next}
 use Rattle.lines.specs.declared.Next.the-variants.{To, Last}
-use Rattle.spec.specs.Lines.{end, byte, textAt, lineText, laterLines, linesFrom, firstName, laterNames}
+use Rattle.spec.specs.Lines.{end, byte, textAt, lineText, firstName, laterNames}
 
 -- `peek`: the text at a place is the byte that it answers, and then the text at the place that it answers.
 abbrev pub Peeked : List ℕ → ℕ → Step → Type 0
 Peeked s at (Byte b n) = (textAt s at ≡ byte b n (textAt s n)) × (at < n) × (n ≤ length s)
 Peeked s at End = textAt s at ≡ end
-
--- `next_line`: the later lines are those from the place that it answers, or none.
-abbrev pub NextLine : List ℕ → ℕ → Next → Type 0
-NextLine s at (To n) = (laterLines (textAt s at) ≡ linesFrom n (textAt s n)) × (at < n) × (n ≤ length s)
-NextLine s at Last = laterLines (textAt s at) ≡ []
 
 -- `next_name`: the later names of the line at a place are the names of the line at the place that it answers, or none.
 abbrev pub NextName : List ℕ → ℕ → Next → Type 0

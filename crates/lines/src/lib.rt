@@ -1,10 +1,11 @@
-// Finds the line of a terminal in a termcap database. A place is an index of the raw database. The joined text at a place is what
+// The lines of a termcap database and their names. A place is an index of the raw database. The joined text at a place is what
 // stands from there on once each backslash that a newline follows has vanished with that newline.
-use spec::Found;
 ghost use mathlib.Core.Path.{_≡_};
+ghost use lib.Dec.{eqb};
+ghost use lib.ListN.{length};
 ghost use Rattle.spec.specs.Lists.{same};
-ghost use Rattle.spec.specs.Lines.{textAt, lineText, blank, isIgnored, firstName, findLine, extent};
-ghost use Rattle.lines.specs.Answers.{Peeked, NextLine, NextName};
+ghost use Rattle.spec.specs.Lines.{textAt, lineText, blank, isIgnored, firstName, extent};
+ghost use Rattle.lines.specs.Answers.{Peeked, NextName};
 
 // What the joined text at a place starts with: a byte, with the place after it, or the end of the database.
 pub enum Step {
@@ -12,7 +13,7 @@ pub enum Step {
     End,
 }
 
-// The place where the next line or the next name starts, if there is one.
+// The place where the next name starts, if there is one.
 pub enum Next {
     To(usize),
     Last,
@@ -39,24 +40,6 @@ pub fn peek(s: &[u8], at: usize) -> Step
     Step::End
 }
 
-// Where the line after the one at a place starts.
-pub fn next_line(s: &[u8], at: usize) -> Next
-    ensures { λ r. ⌜ NextLine (now (s .entry)) at r ⌝ }
-{
-    let mut i = at;
-    loop {
-        match peek(s, i) {
-            Step::Byte(b, n) => {
-                if b == 10 {
-                    return Next::To(n);
-                }
-                i = n;
-            }
-            Step::End => return Next::Last,
-        }
-    }
-}
-
 // Whether the line at a place has only spaces and tabs.
 fn is_blank(s: &[u8], at: usize) -> bool
     ensures { λ r. ⌜ r ≡ blank (lineText (textAt (now (s .entry)) at)) ⌝ }
@@ -75,7 +58,7 @@ fn is_blank(s: &[u8], at: usize) -> bool
 }
 
 // Whether the line at a place is ignored.
-fn is_ignored(s: &[u8], at: usize) -> bool
+pub fn is_ignored(s: &[u8], at: usize) -> bool
     ensures { λ r. ⌜ r ≡ isIgnored (lineText (textAt (now (s .entry)) at)) ⌝ }
 {
     match peek(s, at) {
@@ -89,8 +72,31 @@ fn is_ignored(s: &[u8], at: usize) -> bool
     }
 }
 
-// Whether the first name of the line at a place is `name`.
-fn is_name(s: &[u8], at: usize, name: &[u8]) -> bool
+// Whether the first name of the line at a place has `count` bytes.
+fn has_length(s: &[u8], at: usize, count: usize) -> bool
+    ensures { λ r. ⌜ r ≡ eqb (length (firstName (lineText (textAt (now (s .entry)) at)))) count ⌝ }
+{
+    let mut i = at;
+    let mut k = 0;
+    loop {
+        match peek(s, i) {
+            Step::Byte(b, n) => match b {
+                10 | 58 | 124 => return k == count,
+                _ => {
+                    if k == count {
+                        return false;
+                    }
+                    k += 1;
+                    i = n;
+                }
+            },
+            Step::End => return k == count,
+        }
+    }
+}
+
+// Whether the first name of the line at a place is `name`, byte by byte.
+fn is_equal(s: &[u8], at: usize, name: &[u8]) -> bool
     ensures { λ r. ⌜ r ≡ same (now (name .entry)) (firstName (lineText (textAt (now (s .entry)) at))) ⌝ }
 {
     let mut i = at;
@@ -115,8 +121,18 @@ fn is_name(s: &[u8], at: usize, name: &[u8]) -> bool
     }
 }
 
+// Whether the first name of the line at a place is `name`. No byte is compared of a name that has another length.
+pub fn is_name(s: &[u8], at: usize, name: &[u8]) -> bool
+    ensures { λ r. ⌜ r ≡ same (now (name .entry)) (firstName (lineText (textAt (now (s .entry)) at))) ⌝ }
+{
+    if has_length(s, at, name.len()) {
+        return is_equal(s, at, name);
+    }
+    false
+}
+
 // Where the name after the one at a place starts.
-fn next_name(s: &[u8], at: usize) -> Next
+pub fn next_name(s: &[u8], at: usize) -> Next
     ensures { λ r. ⌜ NextName (now (s .entry)) at r ⌝ }
 {
     let mut i = at;
@@ -128,31 +144,6 @@ fn next_name(s: &[u8], at: usize) -> Next
                 _ => i = n,
             },
             Step::End => return Next::Last,
-        }
-    }
-}
-
-// Where the first line starts that is not ignored and that has the name: lines in the outer loop, names in the inner one.
-pub fn find_line(db: &[u8], name: &[u8]) -> Found
-    ensures { λ r. ⌜ r ≡ findLine (now (db .entry)) (now (name .entry)) ⌝ }
-{
-    let mut at = 0;
-    'lines: loop {
-        if !is_ignored(db, at) {
-            let mut p = at;
-            loop {
-                if is_name(db, p, name) {
-                    break 'lines Found::At(at);
-                }
-                match next_name(db, p) {
-                    Next::To(n) => p = n,
-                    Next::Last => break,
-                }
-            }
-        }
-        match next_line(db, at) {
-            Next::To(n) => at = n,
-            Next::Last => break Found::Nothing,
         }
     }
 }

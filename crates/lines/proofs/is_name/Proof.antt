@@ -1,89 +1,37 @@
--- `lines::is_name` meets its contract: the first k bytes of the name are those passed, so what is left of it decides.
+-- `lines::is_name` meets its contract: a name of another length is another name.
 -- Assumes nothing.
-use Prim.Native.Nat.{_≤_, _-_}
-use mathlib.Core.Path.{_≡_, refl, sym}
-use native.Mathlib.Omega.{arith}
-use borrow.Author.Needs.{needs}
+use mathlib.Core.Path.{_≡_, refl, sym, ap, _∙_}
+use mathlib.Core.Bool.{Bool, true, false}
+use mathlib.Core.List.{List}
+use Prim.Native.Nat.{ℕ}
+use borrow.Author.Tests.{eqb-false}
+use lib.Dec.{eqb}
 use lib.ListN.{length}
-use Rattle.spec.proofs.TextSteps as Laws
+use Rattle.spec.specs.Lists.{same}
+use Rattle.spec.proofs.WholeLines.{same-equal}
+use borrow.Author.Needs.{needs}
 use Rattle.lines.proofs.is_name.Statement.{statement}
 use Rattle.lines.proofs.is_name.Tie as tie
-use Rattle.spec.specs.Lines.{textAt, lineText, firstName}
-use Rattle.spec.specs.Lists.{upto, same}
-use Rattle.spec.proofs.TextSteps.{rest}
+use Rattle.lines.proofs.is_name.Reads as reads
+use Rattle.lines.proofs.is_name.Lts as lts
+use Rattle.lines.proofs.has_length.Reads as has-length-reads
+use Rattle.lines.proofs.is_equal.Reads as is-equal-reads
 
-abbrev Inv-loop : tie.InvT-loop
-Inv-loop s at name i₀ k₀ i k =
-    (k ≤ length name) × (same name (firstName (lineText (textAt s at))) ≡ same (rest name k) (firstName (lineText (textAt s i))))
+has-length-requires : tie.Need-has-length-requires
+has-length-requires c κs = search needs
 
-abbrev μ-loop : tie.MeasureT-loop
-μ-loop s at name i₀ k₀ i k = length s - i
+is-equal-requires : tie.Need-is-equal-requires
+is-equal-requires c κs = search needs
 
-loop-holds : tie.Need-loop-holds Inv-loop μ-loop
-unfolding rest
-loop-holds c = (omega arith, refl)
+returns : tie.Need-returns
+returns c = search needs
 
-peek-requires : tie.Need-peek-requires Inv-loop μ-loop
-peek-requires c κs = tt
+other-length : (name found : List ℕ) (x : Bool) → same name found ≡ x → (length found ≡ length name → ⊥) → false ≡ same name found
+other-length name found true e h = absurd (h (sym (ap length (same-equal name found e))))
+other-length name found false e h = sym e
 
-enum-known-b : tie.Need-enum-known-b Inv-loop μ-loop
-enum-known-b c = search needs
-
-returns : tie.Need-returns Inv-loop μ-loop
-returns c =
-    let p = rw (c .before .before .b .given .1) at (c .before .before .before .before .peek .ensures) in
-    rw (c .before .before .before .before .before .loop .inv .1, p .0, Laws.name-end _ _ _ (c .match2 .keys1)) (Laws.same-nil _ _ (omega arith))
-
-shared-slice-read-if2 : tie.Need-shared-slice-read-if2 Inv-loop μ-loop
-shared-slice-read-if2 c = omega arith
-
-add-k : tie.Need-add-k Inv-loop μ-loop
-add-k c = omega arith
-
-loop-less : tie.Need-loop-less Inv-loop μ-loop
-loop-less c =
-    let p = rw (c .before .before .before .before .before .b .given .1) at (c .before .before .before .before .before .before .before .peek .ensures) in
-    omega arith
-
-loop-again : tie.Need-loop-again Inv-loop μ-loop
-loop-again c =
-    let p = rw (c .before .before .before .before .before .b .given .1) at (c .before .before .before .before .before .before .before .peek .ensures) in
-    (omega arith, rw (c .before .before .before .before .before .before .before .before .loop .inv .1, p .0, Laws.name-on _ _ _ (c .before .before .before .match2 .rest .1)) (Laws.same-next _ _ _ _ (omega arith) (c .if2 .taken)))
-
-returns-2 : tie.Need-returns-2 Inv-loop μ-loop
-returns-2 c =
-    let p = rw (c .before .before .before .before .before .b .given .1) at (c .before .before .before .before .before .before .before .peek .ensures) in
-    rw (c .before .before .before .before .before .before .before .before .loop .inv .1, p .0, Laws.name-on _ _ _ (c .before .before .before .match2 .rest .1)) (sym (Laws.same-differs _ _ _ _ (omega arith) (c .if2 .left)))
-
-returns-3 : tie.Need-returns-3 Inv-loop μ-loop
-returns-3 c =
-    let p = rw (c .before .before .before .b .given .1) at (c .before .before .before .before .before .peek .ensures) in
-    rw (c .before .before .before .before .before .before .loop .inv .1, p .0, Laws.name-on _ _ _ (c .before .match2 .rest .1)) (sym (Laws.same-short _ _ _ _ (omega arith)))
-
-enum-told : tie.Need-enum-told Inv-loop μ-loop
-enum-told c = search needs
-
-returns-4 : tie.Need-returns-4 Inv-loop μ-loop
-unfolding firstName upto lineText
-returns-4 c =
-    let p = rw (c .enum-told .given .1) at (c .before .before .peek .ensures) in
-    rw (c .before .before .before .loop .inv .1, p) (Laws.same-nil _ _ (omega arith))
+returns-2 : tie.Need-returns-2
+returns-2 c = other-length _ _ (same _ _) refl (eqb-false _ _ (sym (c .before .has-length .ensures) ∙ c .if1 .left))
 
 pub is-name-spec : {M : Type 1} → statement M
-is-name-spec =
-    tie.close
-    (tie.spec
-    Inv-loop
-    μ-loop
-    loop-holds
-    peek-requires
-    enum-known-b
-    returns
-    shared-slice-read-if2
-    add-k
-    loop-less
-    loop-again
-    returns-2
-    returns-3
-    enum-told
-    returns-4)
+is-name-spec = tie.close (tie.spec has-length-requires is-equal-requires returns returns-2)

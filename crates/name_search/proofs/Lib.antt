@@ -1,0 +1,5 @@
+mod Weights
+mod Places
+mod Looking
+mod LineEnds
+mod Passing

@@ -1,0 +1,52 @@
+-- `name_search::first_mark` meets its contract: there is no mark before the loop's place.
+-- Assumes nothing.
+use Prim.Native.Nat.{_+_, _≤_, _-_}
+use native.Mathlib.Omega.{arith}
+use Rattle.name_search.specs.Marks.{Passed}
+use Rattle.name_search.proofs.Places.{clear-none, clear-one}
+use Rattle.name_search.proofs.first_mark.Statement.{statement}
+use Rattle.name_search.proofs.first_mark.Tie as tie
+use Rattle.name_search.proofs.first_mark.Reads as reads
+use Rattle.name_search.proofs.first_mark.Lts as lts
+use Rattle.name_search.proofs.is_mark.Reads as is-mark-reads
+
+abbrev Inv-loop : tie.InvT-loop
+Inv-loop s at stop size i₀ i = (i ≤ stop) × Passed s size at i
+
+abbrev μ-loop : tie.MeasureT-loop
+μ-loop s at stop size i₀ i = stop - i
+
+loop-holds : tie.Need-loop-holds Inv-loop μ-loop
+loop-holds c = (omega arith, record { from = omega arith; inside = omega arith; clear = clear-none _ (omega arith) })
+
+is-mark-requires : tie.Need-is-mark-requires Inv-loop μ-loop
+is-mark-requires c κs = omega arith
+
+returns : tie.Need-returns Inv-loop μ-loop
+returns c = c .before .before .before .loop .inv
+
+add-i : tie.Need-add-i Inv-loop μ-loop
+add-i c = omega arith
+
+loop-less : tie.Need-loop-less Inv-loop μ-loop
+loop-less c = omega arith
+
+loop-again : tie.Need-loop-again Inv-loop μ-loop
+loop-again c = (omega arith, record { from = omega arith; inside = omega arith; clear = clear-one _ (c .before .before .before .loop .inv .1 .clear) (c .before .is-mark .ensures (c .if1 .left)) })
+
+returns-2 : tie.Need-returns-2 Inv-loop μ-loop
+returns-2 c = c .before .loop .inv
+
+pub first-mark-spec : {M : Type 1} → statement M
+first-mark-spec =
+    tie.close
+    (tie.spec
+    Inv-loop
+    μ-loop
+    loop-holds
+    is-mark-requires
+    returns
+    add-i
+    loop-less
+    loop-again
+    returns-2)
