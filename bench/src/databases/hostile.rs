@@ -1,0 +1,1 @@
+//! Databases made to be slow.
