@@ -16,6 +16,8 @@ pub type Checked = Result<(), String>;
 /// What the buffers have before a call: no answer is all of this byte.
 const FILL: u8 = 0xA5;
 
+const TWISTED: u64 = 20_000;
+
 /// The questions and the searches of a row.
 pub fn check_row(row: &Row) -> Checked {
     for question in &row.questions {
@@ -68,9 +70,18 @@ fn shown<S: Subject>(subject: &S, wanted: Wanted) -> usize {
     }
 }
 
+/// What is not timed: all names of a large and of a less large database, and twisted small ones.
+pub fn check_more(large: &Large, less_large: &Large) -> Checked {
+    check_starts(large)?;
+    let names = check_names(large, 100)? + check_names(less_large, 1)?;
+    check_twisted(TWISTED)?;
+    println!("All agree: on every input that is timed, on {names} names and on {TWISTED} twisted databases.");
+    Ok(())
+}
+
 /// Every name of the database and its prefix, and the absent ones. The reference is asked for every
 /// so manieth.
-pub fn check_names(large: &Large, reference_every: usize) -> Result<usize, String> {
+fn check_names(large: &Large, reference_every: usize) -> Result<usize, String> {
     let names = large.entries.iter().flat_map(|entry| &entry.names).map(|name| name.as_bytes());
     let absent = ABSENT.iter().map(|name| name.as_bytes());
     let mut count = 0;
@@ -92,7 +103,7 @@ pub fn check_names(large: &Large, reference_every: usize) -> Result<usize, Strin
 }
 
 /// Every description starts where the generator put it: the first name leads there.
-pub fn check_starts(large: &Large) -> Checked {
+fn check_starts(large: &Large) -> Checked {
     for entry in &large.entries {
         let wanted = Wanted { database: &large.bytes, name: entry.names[0].as_bytes() };
         let start = shown(&Library, wanted);
@@ -104,7 +115,7 @@ pub fn check_starts(large: &Large) -> Checked {
 }
 
 /// Small databases of the bytes that matter, in all sorts of order.
-pub fn check_twisted(count: u64) -> Checked {
+fn check_twisted(count: u64) -> Checked {
     for index in 0..count {
         let mut random = Random::for_case(1, index);
         let database = twisted(&mut random);

@@ -3,6 +3,8 @@
 mod agreement;
 mod contender;
 mod databases;
+mod growth;
+mod hostile;
 #[path = "../../tests/src/library.rs"]
 mod library;
 mod main_table;
@@ -12,8 +14,10 @@ mod rows;
 mod targets;
 mod timing;
 
+use std::io::Write;
 use std::process::ExitCode;
 
+use contender::Row;
 use databases::large::Large;
 use targets::Targets;
 
@@ -22,13 +26,20 @@ const LARGE: usize = 1_000_000;
 fn main() -> ExitCode {
     let arguments: Vec<String> = std::env::args().skip(1).collect();
     match &arguments[..] {
+        [word] if word == "--large" => print_large(),
         [path] => run(path),
         _ => usage(),
     }
 }
 
+/// The large database, for a reader who wants to see it.
+fn print_large() -> ExitCode {
+    let written = std::io::stdout().write_all(&Large::new(LARGE).bytes);
+    ExitCode::from(u8::from(written.is_err()))
+}
+
 fn usage() -> ExitCode {
-    eprintln!("usage: termcap-bench TARGETS");
+    eprintln!("usage: termcap-bench TARGETS | --large");
     ExitCode::from(2)
 }
 
@@ -52,9 +63,18 @@ fn run(path: &str) -> ExitCode {
 fn measure(targets: &mut Targets) -> agreement::Checked {
     let large = Large::new(LARGE);
     let groups = rows::groups(&large);
-    for row in groups.iter().flat_map(|group| &group.rows) {
-        agreement::check_row(row)?;
-    }
+    let growing = growth::Databases::new();
+    let series = growth::series(&growing);
+    let hostile = databases::hostile::all();
+    let hostile: Vec<Row> = hostile.iter().map(hostile::row).collect();
+
+    let main_rows = groups.iter().flat_map(|group| &group.rows);
+    let growth_rows = series.iter().flat_map(|series| series.rows());
+    main_rows.chain(growth_rows).chain(&hostile).try_for_each(agreement::check_row)?;
+    agreement::check_more(&large, &growing.large[0])?;
+
     main_table::print(&groups, targets);
+    growth::print(&series);
+    hostile::print(&hostile, targets);
     Ok(())
 }

@@ -183,6 +183,12 @@ fn comment(random: &mut Random) -> String {
     if random.chance(8) {
         return line;
     }
+    // Bars and colons stand in comments, too.
+    match random.below(20) {
+        0 => line += " am|xn:",
+        1 => line += " From:",
+        _ => {}
+    }
     let most = random.between(12, 75) as usize;
     loop {
         let word = random.pick(&COMMENT_WORDS);

@@ -36,9 +36,9 @@ pub const MAKERS: [&str; 8] = [
     "human designed systems", "ibm",
 ];
 
-pub const COMMENT_WORDS: [&str; 40] = [
+pub const COMMENT_WORDS: [&str; 38] = [
     "the", "terminal", "of", "manufacturer", "has", "a", "24", "line", "display", "and",
     "keyboard", "function", "keys", "are", "sent", "as", "escape", "sequences", "note", "that",
     "this", "entry", "was", "contributed", "by", "site", "users", "from", "model", "series",
-    "with", "graphics", "option", "From:", "am|xn", "<console@plant>", "it", "does", "not", "wrap",
+    "with", "graphics", "option", "it", "does", "not", "wrap", "<console@plant>",
 ];
