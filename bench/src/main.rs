@@ -2,6 +2,7 @@
 
 mod agreement;
 mod contender;
+mod counts;
 mod databases;
 mod growth;
 mod hostile;
@@ -17,7 +18,7 @@ mod timing;
 use std::io::Write;
 use std::process::ExitCode;
 
-use contender::Row;
+use contender::{Contender, Row};
 use databases::large::Large;
 use targets::Targets;
 
@@ -27,6 +28,7 @@ fn main() -> ExitCode {
     let arguments: Vec<String> = std::env::args().skip(1).collect();
     match &arguments[..] {
         [word] if word == "--large" => print_large(),
+        [word, row, contender, passes] if word == "--count" => count(row, contender, passes),
         [path] => run(path),
         _ => usage(),
     }
@@ -36,6 +38,18 @@ fn main() -> ExitCode {
 fn print_large() -> ExitCode {
     let written = std::io::stdout().write_all(&Large::new(LARGE).bytes);
     ExitCode::from(u8::from(written.is_err()))
+}
+
+/// Passes of one row by one contender and nothing else, to count instructions of.
+fn count(row: &str, contender: &str, passes: &str) -> ExitCode {
+    let large = Large::new(LARGE);
+    let rows = rows::searching(&large);
+    let row = rows.iter().find(|one| one.name == row);
+    match (row, Contender::by_name(contender), passes.parse()) {
+        (Some(row), Some(contender), Ok(passes)) => counts::passes(row, contender, passes),
+        _ => return usage(),
+    }
+    ExitCode::SUCCESS
 }
 
 fn usage() -> ExitCode {
@@ -76,5 +90,6 @@ fn measure(targets: &mut Targets) -> agreement::Checked {
     main_table::print(&groups, targets);
     growth::print(&series);
     hostile::print(&hostile, targets);
+    counts::print(&groups[0].rows);
     Ok(())
 }

@@ -3,6 +3,7 @@
 use std::time::Duration;
 
 use crate::contender::{Contender, Row, RIVALS};
+use crate::plain_c;
 use crate::rows::Group;
 use crate::targets::Targets;
 use crate::timing;
@@ -16,6 +17,9 @@ pub fn print(groups: &[Group], targets: &mut Targets) {
         "Behind a ratio stands its target, if it has one. The rivals in C only search: where ours"
     );
     println!("reads fields too, it does more than they do.");
+    if !plain_c::simd_is_vector() {
+        println!("Without SSE2 here, C SIMD is C memchr.");
+    }
     for group in groups {
         println!("\n{}", group.title);
         print!("  {:26} {:>10}", "", "ours");
