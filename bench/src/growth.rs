@@ -2,15 +2,15 @@
 
 use std::time::Duration;
 
-use crate::contender::Row;
+use crate::contender::{Contender, Row};
 use crate::databases::large::Large;
 use crate::databases::wide;
 use crate::main_table::time;
 use crate::question::Reading;
 use crate::rows;
-use crate::timing;
+use crate::timing::{self, Run};
 
-const BUDGET: Duration = Duration::from_millis(150);
+const BUDGET: Duration = Duration::from_millis(500);
 
 pub const SIZES: [usize; 3] = [65_536, 262_144, 1_048_576];
 const FIELDS: [usize; 4] = [10, 100, 1_000, 5_000];
@@ -78,26 +78,16 @@ impl Series<'_> {
     }
 
     fn print(&self) {
-        let measured = self.points.iter().map(|(size, row)| {
-            let taken = timing::median_of_ours(row, BUDGET);
-            (*size as f64, taken)
-        });
-        let measured: Vec<(f64, f64)> = measured.collect();
+        let runs: Vec<Run> = self.rows().map(|row| (Contender::Ours, row)).collect();
+        let sizes = self.points.iter().map(|(size, _)| *size as f64);
+        let measured: Vec<(f64, f64)> = sizes.zip(timing::medians(&runs, BUDGET)).collect();
         println!("\n  {}: grows with the power {:.2}", self.name, exponent(&measured));
         for (size, taken) in measured {
+            let units = format!("{}s", self.unit);
             let each = taken / size;
-            println!(
-                "  {size:>12} {:6} {:>10} {each:>9.3} ns/{}",
-                plural(self.unit),
-                time(taken),
-                self.unit
-            );
+            println!("  {size:>12} {units:6} {:>10} {each:>9.3} ns/{}", time(taken), self.unit);
         }
     }
-}
-
-fn plural(unit: &str) -> String {
-    format!("{unit}s")
 }
 
 pub fn print(all: &[Series]) {

@@ -4,7 +4,7 @@ use std::time::Duration;
 
 use termcap_tests::subject::{Subject, ACCEPTED};
 
-use crate::contender::{Row, Wanted};
+use crate::contender::{Contender, Row, Wanted};
 use crate::databases::hostile::{Hostile, ID};
 use crate::library::Library;
 use crate::main_table::time;
@@ -49,7 +49,7 @@ fn print_row(row: &Row) -> f64 {
     let code = row.questions[0].ask(&Library, &mut vec![0; ROOM]).code;
     let read: usize = row.searches.iter().map(|wanted| bytes_read(*wanted)).sum();
     let read = if is_show(row) { read } else { read + chain_bytes(row) };
-    let taken = timing::median_of_ours(row, BUDGET);
+    let taken = timing::medians(&[(Contender::Ours, row)], BUDGET)[0];
     let per_byte = taken / read as f64;
     println!(
         "  {:44} {:>9} {read:>10} {code:>7} {:>10} {per_byte:>8.3}",

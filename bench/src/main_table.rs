@@ -6,7 +6,7 @@ use crate::contender::{Contender, Row, RIVALS};
 use crate::plain_c;
 use crate::rows::Group;
 use crate::targets::Targets;
-use crate::timing;
+use crate::timing::{self, Run};
 
 const BUDGET: Duration = Duration::from_millis(900);
 const CELL: usize = 21;
@@ -23,8 +23,8 @@ pub fn print(groups: &[Group], targets: &mut Targets) {
     for group in groups {
         println!("\n{}", group.title);
         print!("  {:26} {:>10}", "", "ours");
-        RIVALS.iter().for_each(|rival| print!("  {:<CELL$}", rival.name()));
-        println!();
+        let names: String = RIVALS.iter().map(|one| format!("  {:<CELL$}", one.name())).collect();
+        println!("{}", names.trim_end());
         for row in &group.rows {
             print_row(row, targets);
         }
@@ -33,7 +33,8 @@ pub fn print(groups: &[Group], targets: &mut Targets) {
 
 fn print_row(row: &Row, targets: &mut Targets) {
     let contenders = row.contenders();
-    let times = timing::medians(row, &contenders, BUDGET);
+    let runs: Vec<Run> = contenders.iter().map(|contender| (*contender, row)).collect();
+    let times = timing::medians(&runs, BUDGET);
     let mut line = format!("  {:26} {:>10}", row.name, time(times[0]));
     for rival in RIVALS {
         let cell = match contenders.iter().position(|one| *one == rival) {

@@ -10,42 +10,40 @@ const SAMPLE: Duration = Duration::from_micros(25);
 const FEWEST_ROUNDS: u32 = 9;
 const MOST_ROUNDS: u32 = 401;
 
-/// The median time of each contender in nanoseconds a question. The contenders take turns, round
-/// by round, so that a slow moment of the machine meets all of them.
-pub fn medians(row: &Row, contenders: &[Contender], budget: Duration) -> Vec<f64> {
+/// One contender's way through one row.
+pub type Run<'a> = (Contender, &'a Row<'a>);
+
+/// The median time of each run in nanoseconds a question. The runs take turns, round by round, so
+/// that a slow moment of the machine meets all of them.
+pub fn medians(runs: &[Run], budget: Duration) -> Vec<f64> {
     let mut out = vec![0; ROOM];
-    let passes: Vec<u32> =
-        contenders.iter().map(|one| passes_a_sample(*one, row, &mut out)).collect();
+    let passes: Vec<u32> = runs.iter().map(|run| passes_a_sample(*run, &mut out)).collect();
     let mut round = || -> Vec<Duration> {
-        let pairs = contenders.iter().zip(&passes);
-        pairs.map(|(one, passes)| sample(*one, row, *passes, &mut out)).collect()
+        let pairs = runs.iter().zip(&passes);
+        pairs.map(|(run, passes)| sample(*run, *passes, &mut out)).collect()
     };
     let first: Duration = round().iter().sum();
     let rounds = (budget.as_nanos() / first.as_nanos().max(1)) as u32;
-    let samples: Vec<Vec<Duration>> =
-        (0..rounds.clamp(FEWEST_ROUNDS, MOST_ROUNDS)).map(|_| round()).collect();
+    let rounds = rounds.clamp(FEWEST_ROUNDS, MOST_ROUNDS);
+    let samples: Vec<Vec<Duration>> = (0..rounds).map(|_| round()).collect();
 
-    let per_question = |place: usize| {
+    let a_question = |place: usize| {
         let middle = median(samples.iter().map(|sample| sample[place]).collect());
-        middle.as_nanos() as f64 / f64::from(passes[place]) / row.questions.len() as f64
+        let questions = runs[place].1.questions.len() as f64;
+        middle.as_nanos() as f64 / f64::from(passes[place]) / questions
     };
-    (0..contenders.len()).map(per_question).collect()
+    (0..runs.len()).map(a_question).collect()
 }
 
-/// The median time of ours alone.
-pub fn median_of_ours(row: &Row, budget: Duration) -> f64 {
-    medians(row, &[Contender::Ours], budget)[0]
-}
-
-fn passes_a_sample(contender: Contender, row: &Row, out: &mut [u8]) -> u32 {
+fn passes_a_sample(run: Run, out: &mut [u8]) -> u32 {
     let mut passes = 1;
-    while sample(contender, row, passes, out) < SAMPLE {
+    while sample(run, passes, out) < SAMPLE {
         passes *= 2;
     }
     passes
 }
 
-fn sample(contender: Contender, row: &Row, passes: u32, out: &mut [u8]) -> Duration {
+fn sample((contender, row): Run, passes: u32, out: &mut [u8]) -> Duration {
     let start = Instant::now();
     for _ in 0..passes {
         contender.pass(row, out);
