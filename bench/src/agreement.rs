@@ -75,11 +75,12 @@ pub fn check_more(large: &Large, less_large: &Large) -> Checked {
     check_starts(large)?;
     let names = check_names(large, 40)? + check_names(less_large, 1)?;
     check_twisted(TWISTED)?;
-    println!("All agree: on every input that is timed, on {names} names and on {TWISTED} twisted databases.");
+    println!("All agree: on every input that is timed, on {names} names and on {TWISTED} twisted");
+    println!("databases.");
     Ok(())
 }
 
-/// Every name of the database, and the absent ones. Every so manieth is also asked of the reference,
+/// Every name of the database, and the absent ones. One of so many is also asked of the reference,
 /// without its last byte, and with one more.
 fn check_names(large: &Large, every: usize) -> Result<usize, String> {
     let names = large.entries.iter().flat_map(|entry| &entry.names).map(|name| name.as_bytes());

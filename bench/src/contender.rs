@@ -45,6 +45,12 @@ impl Row<'_> {
         );
         contenders
     }
+
+    /// Every question of a row takes equally many searches.
+    fn searches_for(&self, place: usize) -> &[Wanted<'_>] {
+        let each = self.searches.len() / self.questions.len();
+        &self.searches[place * each..][..each]
+    }
 }
 
 impl Contender {
@@ -74,25 +80,22 @@ impl Contender {
         }
     }
 
-    /// Every question of the row once.
-    pub fn pass(self, row: &Row, out: &mut [u8]) {
-        match self {
-            Contender::Ours => ask_all(&Library, &row.questions, out),
-            Contender::Rust => ask_all(&Reference, &row.questions, out),
-            Contender::CBytes => search_all(plain_c::bytes, &row.searches),
-            Contender::CMemchr => search_all(plain_c::memchr, &row.searches),
-            Contender::CSimd => search_all(plain_c::simd, &row.searches),
+    /// One question of the row, or the searches for it; which one, turns about.
+    pub fn take(self, row: &Row, turn: usize, out: &mut [u8]) {
+        let place = turn % row.questions.len();
+        match self.search() {
+            Some(search) => search_all(search, row.searches_for(place)),
+            None if self == Contender::Ours => ask(&Library, &row.questions[place], out),
+            None => ask(&Reference, &row.questions[place], out),
         }
     }
 }
 
-fn ask_all<S: Subject>(subject: &S, questions: &[Question], out: &mut [u8]) {
-    for question in questions {
-        black_box(black_box(question).ask(subject, out));
-    }
+fn ask<S: Subject>(subject: &S, question: &Question, out: &mut [u8]) {
+    black_box(black_box(question).ask(subject, out));
 }
 
-fn search_all(search: impl Fn(&[u8], &[u8]) -> usize, wanted: &[Wanted]) {
+fn search_all(search: Search, wanted: &[Wanted]) {
     for one in wanted {
         let one = black_box(one);
         black_box(search(one.database, one.name));

@@ -11,10 +11,12 @@ const COUNTED: [Contender; 4] =
     [Contender::Ours, Contender::CBytes, Contender::CMemchr, Contender::CSimd];
 const CELL: usize = 20;
 
-/// What is counted: so many passes by one contender.
-pub fn passes(row: &Row, contender: Contender, passes: u32) {
+/// What is counted: so many passes of one contender through all questions of a row.
+pub fn passes(row: &Row, contender: Contender, passes: usize) {
     let mut out = vec![0; ROOM];
-    (0..passes).for_each(|_| contender.pass(row, &mut out));
+    for turn in 0..passes * row.questions.len() {
+        contender.take(row, turn, &mut out);
+    }
 }
 
 pub fn print(rows: &[Row]) {

@@ -12,7 +12,9 @@ const BUDGET: Duration = Duration::from_millis(900);
 const CELL: usize = 21;
 
 pub fn print(groups: &[Group], targets: &mut Targets) {
-    println!("\nTimes of ours, and the time of each rival as a multiple of it (above 1: ours is faster).");
+    println!(
+        "\nTimes of ours, and the time of each rival as a multiple of it: above 1 ours is faster."
+    );
     println!(
         "Behind a ratio stands its target, if it has one. The rivals in C only search: where ours"
     );

@@ -7,8 +7,8 @@ use crate::question::ROOM;
 
 /// A sample is at least this long, so that the clock's own time does not count.
 const SAMPLE: Duration = Duration::from_micros(25);
-const FEWEST_ROUNDS: u32 = 9;
-const MOST_ROUNDS: u32 = 401;
+const FEWEST_ROUNDS: usize = 9;
+const MOST_ROUNDS: usize = 401;
 
 /// One contender's way through one row.
 pub type Run<'a> = (Contender, &'a Row<'a>);
@@ -17,36 +17,35 @@ pub type Run<'a> = (Contender, &'a Row<'a>);
 /// that a slow moment of the machine meets all of them.
 pub fn medians(runs: &[Run], budget: Duration) -> Vec<f64> {
     let mut out = vec![0; ROOM];
-    let passes: Vec<u32> = runs.iter().map(|run| passes_a_sample(*run, &mut out)).collect();
-    let mut round = || -> Vec<Duration> {
-        let pairs = runs.iter().zip(&passes);
-        pairs.map(|(run, passes)| sample(*run, *passes, &mut out)).collect()
-    };
-    let first: Duration = round().iter().sum();
-    let rounds = (budget.as_nanos() / first.as_nanos().max(1)) as u32;
-    let rounds = rounds.clamp(FEWEST_ROUNDS, MOST_ROUNDS);
-    let samples: Vec<Vec<Duration>> = (0..rounds).map(|_| round()).collect();
-
-    let a_question = |place: usize| {
-        let middle = median(samples.iter().map(|sample| sample[place]).collect());
-        let questions = runs[place].1.questions.len() as f64;
-        middle.as_nanos() as f64 / f64::from(passes[place]) / questions
-    };
-    (0..runs.len()).map(a_question).collect()
-}
-
-fn passes_a_sample(run: Run, out: &mut [u8]) -> u32 {
-    let mut passes = 1;
-    while sample(run, passes, out) < SAMPLE {
-        passes *= 2;
-    }
-    passes
-}
-
-fn sample((contender, row): Run, passes: u32, out: &mut [u8]) -> Duration {
+    let counts: Vec<usize> = runs.iter().map(|run| questions_a_sample(*run, &mut out)).collect();
+    let mut samples = vec![Vec::new(); runs.len()];
     let start = Instant::now();
-    for _ in 0..passes {
-        contender.pass(row, out);
+    let mut round = 0;
+    while round < FEWEST_ROUNDS || (round < MOST_ROUNDS && start.elapsed() < budget) {
+        for ((run, count), samples) in runs.iter().zip(&counts).zip(&mut samples) {
+            samples.push(sample(*run, round, *count, &mut out));
+        }
+        round += 1;
+    }
+    let a_question = |(samples, count)| median(samples).as_nanos() as f64 / count as f64;
+    samples.into_iter().zip(counts).map(a_question).collect()
+}
+
+fn questions_a_sample(run: Run, out: &mut [u8]) -> usize {
+    let mut count = 1;
+    while sample(run, 0, count, out) < SAMPLE {
+        count *= 2;
+    }
+    count
+}
+
+/// The time of so many questions. One more before them is not timed: whatever ran before, the
+/// database is then as near to the processor as it gets.
+fn sample((contender, row): Run, round: usize, count: usize, out: &mut [u8]) -> Duration {
+    contender.take(row, round, out);
+    let start = Instant::now();
+    for turn in round..round + count {
+        contender.take(row, turn, out);
     }
     start.elapsed()
 }
