@@ -56,10 +56,18 @@ fn check_search(wanted: Wanted, with_reference: bool) -> Checked {
     for (rival, start) in others {
         if start != ours {
             let name = String::from_utf8_lossy(wanted.name);
-            return Err(format!("name {name:?}: ours finds {ours}, {rival} {start}"));
+            let (ours, start) = (place(ours), place(start));
+            return Err(format!("name {name:?}: ours finds it {ours}, {rival} {start}"));
         }
     }
     Ok(())
+}
+
+fn place(start: usize) -> String {
+    match start {
+        NOWHERE => "nowhere".to_string(),
+        _ => format!("at {start}"),
+    }
 }
 
 fn shown<S: Subject>(subject: &S, wanted: Wanted) -> usize {
@@ -75,8 +83,7 @@ pub fn check_more(large: &Large, less_large: &Large) -> Checked {
     check_starts(large)?;
     let names = check_names(large, 40)? + check_names(less_large, 1)?;
     check_twisted(TWISTED)?;
-    println!("All agree: on every input that is timed, on {names} names and on {TWISTED} twisted");
-    println!("databases.");
+    println!("All agree on every input that is timed, {names} names, {TWISTED} twisted databases.");
     Ok(())
 }
 
