@@ -90,6 +90,7 @@ fn measure(targets: &mut Targets) -> agreement::Checked {
     main_table::print(&groups, targets);
     growth::print(&series);
     hostile::print(&hostile, targets);
-    counts::print(&groups[0].rows);
+    // The chain would take as long to count as the others together.
+    counts::print(&groups[0].rows[..3]);
     Ok(())
 }

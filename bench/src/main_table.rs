@@ -8,7 +8,7 @@ use crate::rows::Group;
 use crate::targets::Targets;
 use crate::timing::{self, Run};
 
-const BUDGET: Duration = Duration::from_millis(900);
+const BUDGET: Duration = Duration::from_millis(700);
 const CELL: usize = 21;
 
 pub fn print(groups: &[Group], targets: &mut Targets) {
