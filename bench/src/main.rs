@@ -1,0 +1,96 @@
+//! Times the static library beside plain C and the reference in Rust.
+
+mod agreement;
+mod contender;
+mod counts;
+mod databases;
+mod growth;
+mod hostile;
+#[path = "../../tests/src/library.rs"]
+mod library;
+mod main_table;
+mod plain_c;
+mod question;
+mod rows;
+mod targets;
+mod timing;
+
+use std::io::Write;
+use std::process::ExitCode;
+
+use contender::{Contender, Row};
+use databases::large::Large;
+use targets::Targets;
+
+const LARGE: usize = 1_000_000;
+
+fn main() -> ExitCode {
+    let arguments: Vec<String> = std::env::args().skip(1).collect();
+    match &arguments[..] {
+        [word] if word == "--large" => print_large(),
+        [word, row, contender, passes] if word == "--count" => count(row, contender, passes),
+        [path] => run(path),
+        _ => usage(),
+    }
+}
+
+/// The large database, for a reader who wants to see it.
+fn print_large() -> ExitCode {
+    let written = std::io::stdout().write_all(&Large::new(LARGE).bytes);
+    ExitCode::from(u8::from(written.is_err()))
+}
+
+/// Passes of one row by one contender and nothing else, to count instructions of.
+fn count(row: &str, contender: &str, passes: &str) -> ExitCode {
+    let large = Large::new(LARGE);
+    let rows = rows::searching(&large);
+    let row = rows.iter().find(|one| one.name == row);
+    match (row, Contender::by_name(contender), passes.parse()) {
+        (Some(row), Some(contender), Ok(passes)) => counts::passes(row, contender, passes),
+        _ => return usage(),
+    }
+    ExitCode::SUCCESS
+}
+
+fn usage() -> ExitCode {
+    eprintln!("usage: termcap-bench TARGETS | --large");
+    ExitCode::from(2)
+}
+
+fn run(path: &str) -> ExitCode {
+    let mut targets = match Targets::read(path) {
+        Ok(targets) => targets,
+        Err(fault) => {
+            eprintln!("{fault}");
+            return ExitCode::from(2);
+        }
+    };
+    // Times of wrong answers are worth nothing.
+    match measure(&mut targets) {
+        Ok(()) => targets.print_unmeasured(),
+        Err(fault) => println!("DISAGREEMENT: {fault}"),
+    }
+    println!("bench: {} of {} targets met", targets.met(), targets.count());
+    ExitCode::from(u8::from(targets.met() < targets.count()))
+}
+
+fn measure(targets: &mut Targets) -> agreement::Checked {
+    let large = Large::new(LARGE);
+    let groups = rows::groups(&large);
+    let growing = growth::Databases::new();
+    let series = growth::series(&growing);
+    let hostile = databases::hostile::all();
+    let hostile: Vec<Row> = hostile.iter().map(hostile::row).collect();
+
+    let main_rows = groups.iter().flat_map(|group| &group.rows);
+    let growth_rows = series.iter().flat_map(|series| series.rows());
+    main_rows.chain(growth_rows).chain(&hostile).try_for_each(agreement::check_row)?;
+    agreement::check_more(&large, &growing.large[0])?;
+
+    main_table::print(&groups, targets);
+    growth::print(&series);
+    hostile::print(&hostile, targets);
+    // The chain would take as long to count as the others together.
+    counts::print(&groups[0].rows[..3]);
+    Ok(())
+}
