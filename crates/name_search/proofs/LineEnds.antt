@@ -3,15 +3,15 @@
 use Prim.Native.Nat.{ℕ, zero, suc, _+_, _≤_, _<_}
 use mathlib.Core.Path.{_≡_, refl, _∙_, ap, sym}
 use mathlib.Core.Bool.{Bool, true, false}
-use mathlib.Core.List.{List, []}
+use mathlib.Core.List.{List}
 use native.Mathlib.Omega.{arith}
 use borrow.Author.Tests.{eqb-true, eqb-false}
 use lib.Dec.{eqb}
 use lib.ListN.{length, getD}
 use Rattle.spec.specs.declared.Found.the-variants.{Nothing}
-use Rattle.spec.specs.Lines.{byte, textAt, lineText, laterLines, linesFrom, find, extent}
+use Rattle.spec.specs.Lines.{byte, textAt, laterLines, linesFrom, find, extent}
 use Rattle.spec.proofs.TextSteps as Laws
-use Rattle.spec.proofs.Extents.{extent-end, extent-newline, extent-on, extent-inside}
+use Rattle.spec.proofs.Extents.{extent-end, extent-newline, extent-on}
 use Rattle.name_search.specs.Marks.{Closes}
 use Rattle.name_search.proofs.Looking.{Pair, Look, over, pair, one, look}
 

@@ -1,7 +1,7 @@
 -- Lines are passed over as a whole: where each mark up to the end of a line is one of another name, no line up to there has the name.
 -- Assumes nothing.
 use Prim.Native.Nat.{ℕ, zero, suc, _+_, _-_, _≤_, _<_}
-use mathlib.Core.Path.{_≡_, refl, _∙_, ap, sym}
+use mathlib.Core.Path.{_≡_, refl, _∙_, ap}
 use mathlib.Core.Bool.{Bool, true, false}
 use mathlib.Core.List.{List, [], _∷_}
 use mathlib.Core.Logic.{_⊎_, inl, inr, ⊎-elim}
@@ -10,11 +10,11 @@ use borrow.Author.Tests.{eqb-true, eqb-false, ltb-true, ltb-false}
 use lib.Dec.{eqb, ltb}
 use lib.ListN.{length, getD}
 use Rattle.spec.specs.declared.Found.the-variants.{Nothing}
-use Rattle.spec.specs.Lines.{Text, end, byte, textAt, lineText, laterLines, linesFrom, firstName, laterNames, find}
+use Rattle.spec.specs.Lines.{Text, end, byte, textAt, lineText, laterLines, firstName, laterNames, find}
 use Rattle.spec.specs.Lists.{upto, laterPieces, same, among}
 use Rattle.spec.proofs.TextSteps as Laws
 use Rattle.spec.proofs.WholeLines.{same-equal}
-use Rattle.name_search.specs.Marks.{Separator, Ending, Ends, Mark, fits, cut, Clear, Other, Closes, LineOf, Candidate}
+use Rattle.name_search.specs.Marks.{Separator, Ends, Mark, fits, cut, Clear, Other, Closes, LineOf, Candidate}
 use Rattle.name_search.proofs.LineEnds.{none-behind, next-behind}
 use Rattle.name_search.proofs.Looking.{Pair, Look, over, pair, one, look}
 

@@ -1,7 +1,7 @@
 -- `lines::has_length` meets its contract: k bytes of the name are passed, and the rest of it stands at the loop's place.
 -- Assumes nothing.
 use Prim.Native.Nat.{ℕ, _+_, _≤_, _-_}
-use mathlib.Core.Path.{_≡_, refl, sym, ap, _∙_}
+use mathlib.Core.Path.{_≡_, sym, ap, _∙_}
 use mathlib.Core.Bool.{false}
 use mathlib.Core.List.{List, [], _∷_}
 use native.Mathlib.Omega.{arith}
@@ -14,9 +14,6 @@ use Rattle.spec.specs.Lines.{Text, end, byte, textAt, lineText, firstName}
 use Rattle.spec.specs.Lists.{upto}
 use Rattle.lines.proofs.has_length.Statement.{statement}
 use Rattle.lines.proofs.has_length.Tie as tie
-use Rattle.lines.proofs.has_length.Reads as reads
-use Rattle.lines.proofs.has_length.Lts as lts
-use Rattle.lines.proofs.peek.Reads as peek-reads
 
 abbrev Inv-loop : tie.InvT-loop
 Inv-loop s at count i₀ k₀ i k = (k ≤ count) × (length (firstName (lineText (textAt s at))) ≡ k + length (firstName (lineText (textAt s i))))

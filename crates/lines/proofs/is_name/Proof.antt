@@ -5,17 +5,12 @@ use mathlib.Core.Bool.{Bool, true, false}
 use mathlib.Core.List.{List}
 use Prim.Native.Nat.{ℕ}
 use borrow.Author.Tests.{eqb-false}
-use lib.Dec.{eqb}
 use lib.ListN.{length}
 use Rattle.spec.specs.Lists.{same}
 use Rattle.spec.proofs.WholeLines.{same-equal}
 use borrow.Author.Needs.{needs}
 use Rattle.lines.proofs.is_name.Statement.{statement}
 use Rattle.lines.proofs.is_name.Tie as tie
-use Rattle.lines.proofs.is_name.Reads as reads
-use Rattle.lines.proofs.is_name.Lts as lts
-use Rattle.lines.proofs.has_length.Reads as has-length-reads
-use Rattle.lines.proofs.is_equal.Reads as is-equal-reads
 
 has-length-requires : tie.Need-has-length-requires
 has-length-requires c κs = search needs

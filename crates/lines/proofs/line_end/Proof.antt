@@ -8,9 +8,6 @@ use Rattle.spec.specs.Lines.{extent}
 use Rattle.spec.proofs.Extents.{extent-end, extent-newline, extent-on}
 use Rattle.lines.proofs.line_end.Statement.{statement}
 use Rattle.lines.proofs.line_end.Tie as tie
-use Rattle.lines.proofs.line_end.Reads as reads
-use Rattle.lines.proofs.line_end.Lts as lts
-use Rattle.lines.proofs.peek.Reads as peek-reads
 
 abbrev Inv-loop : tie.InvT-loop
 Inv-loop db at i₀ i = extent db at ≡ extent db i

@@ -10,9 +10,6 @@ use Rattle.name_search.specs.Marks.{Clear}
 use Rattle.name_search.proofs.Places.{or-left, or-right, clear-none, clear-to, clear-one, no-mark}
 use Rattle.name_search.proofs.any_mark.Statement.{statement}
 use Rattle.name_search.proofs.any_mark.Tie as tie
-use Rattle.name_search.proofs.any_mark.Reads as reads
-use Rattle.name_search.proofs.any_mark.Lts as lts
-use Rattle.name_search.proofs.weight.Reads as weight-reads
 
 abbrev Inv-loop : tie.InvT-loop
 Inv-loop s at size hit₀ k₀ hit k = (k ≤ 16) × (hit ≡ false → Clear s size at (at + k))

@@ -10,17 +10,10 @@ use mathlib.Core.Logic.{⊎-elim}
 use lib.ListN.{length}
 use Rattle.spec.proofs.TextSteps as Laws
 use Rattle.spec.proofs.Extents.{extent-inside}
-use Rattle.spec.specs.Lines.{textAt, lineText, laterLines, linesFrom, hasName, find, findLine, extent}
+use Rattle.spec.specs.Lines.{textAt, lineText, laterLines, linesFrom, hasName, find, findLine}
 use Rattle.name_search.proofs.LineEnds.{Apart, EndOf, end-of, apart-start, apart-behind}
 use Rattle.name_search.proofs.find_line.Statement.{statement}
 use Rattle.name_search.proofs.find_line.Tie as tie
-use Rattle.name_search.proofs.find_line.Reads as reads
-use Rattle.name_search.proofs.find_line.Lts as lts
-use Rattle.lines.proofs.is_ignored.Reads as is-ignored-reads
-use Rattle.lines.proofs.is_name.Reads as is-name-reads
-use Rattle.lines.proofs.line_end.Reads as line-end-reads
-use Rattle.lines.proofs.next_name.Reads as next-name-reads
-use Rattle.name_search.proofs.next_candidate.Reads as next-candidate-reads
 
 abbrev Inv-loop : tie.InvT-loop
 Inv-loop db name at p₀ p = hasName name (lineText (textAt db at)) ≡ hasName name (lineText (textAt db p))

@@ -1,14 +1,11 @@
 -- `name_search::first_mark` meets its contract: there is no mark before the loop's place.
 -- Assumes nothing.
-use Prim.Native.Nat.{_+_, _≤_, _-_}
+use Prim.Native.Nat.{_≤_, _-_}
 use native.Mathlib.Omega.{arith}
 use Rattle.name_search.specs.Marks.{Passed}
 use Rattle.name_search.proofs.Places.{clear-none, clear-one}
 use Rattle.name_search.proofs.first_mark.Statement.{statement}
 use Rattle.name_search.proofs.first_mark.Tie as tie
-use Rattle.name_search.proofs.first_mark.Reads as reads
-use Rattle.name_search.proofs.first_mark.Lts as lts
-use Rattle.name_search.proofs.is_mark.Reads as is-mark-reads
 
 abbrev Inv-loop : tie.InvT-loop
 Inv-loop s at stop size i₀ i = (i ≤ stop) × Passed s size at i

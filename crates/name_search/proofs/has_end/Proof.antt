@@ -6,8 +6,6 @@ use native.Mathlib.Omega.{arith}
 use borrow.Author.Needs.{needs}
 use Rattle.name_search.proofs.has_end.Statement.{statement}
 use Rattle.name_search.proofs.has_end.Tie as tie
-use Rattle.name_search.proofs.has_end.Reads as reads
-use Rattle.name_search.proofs.has_end.Lts as lts
 
 sub-if1 : tie.Need-sub-if1
 sub-if1 c = search needs

@@ -5,9 +5,6 @@ use mathlib.Core.Path.{_∙_, sym}
 use borrow.Author.Needs.{needs}
 use Rattle.name_search.proofs.is_hit.Statement.{statement}
 use Rattle.name_search.proofs.is_hit.Tie as tie
-use Rattle.name_search.proofs.is_hit.Reads as reads
-use Rattle.name_search.proofs.is_hit.Lts as lts
-use Rattle.lines.proofs.is_name.Reads as is-name-reads
 
 add-if1 : tie.Need-add-if1
 add-if1 c = search needs

@@ -1,19 +1,14 @@
 -- `name_search::is_mark` meets its contract.
 -- Assumes nothing.
 use Prim.Native.Nat.{ℕ, _+_}
-use mathlib.Core.Bool.{Bool, true, false, not}
 use mathlib.Core.List.{List}
 use mathlib.Core.Path.{_≡_}
 use borrow.Author.Tests.{not-false, eqb-true}
-use lib.Dec.{eqb}
 use lib.ListN.{getD}
 use Rattle.name_search.specs.Marks.{Separator, Ends, Mark, fits, cut}
 use borrow.Author.Needs.{needs}
 use Rattle.name_search.proofs.is_mark.Statement.{statement}
 use Rattle.name_search.proofs.is_mark.Tie as tie
-use Rattle.name_search.proofs.is_mark.Reads as reads
-use Rattle.name_search.proofs.is_mark.Lts as lts
-use Rattle.name_search.proofs.has_end.Reads as has-end-reads
 
 add-match : tie.Need-add-match
 add-match c = search needs

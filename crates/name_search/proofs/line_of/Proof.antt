@@ -5,8 +5,6 @@ use mathlib.Core.Path.{_≡_}
 use native.Mathlib.Omega.{arith}
 use Rattle.name_search.proofs.line_of.Statement.{statement}
 use Rattle.name_search.proofs.line_of.Tie as tie
-use Rattle.name_search.proofs.line_of.Reads as reads
-use Rattle.name_search.proofs.line_of.Lts as lts
 
 abbrev Inv-loop : tie.InvT-loop
 Inv-loop s end at i₀ i = (end < i) × (i ≤ at)

@@ -4,16 +4,10 @@ use Prim.Native.Nat.{_+_, _≤_, _-_}
 use mathlib.Core.Path.{_≡_}
 use native.Mathlib.Omega.{arith}
 use lib.ListN.{length}
-use Rattle.name_search.specs.Marks.{Candidate}
 use Rattle.name_search.proofs.LineEnds.{none-behind, next-behind}
 use Rattle.name_search.proofs.Passing.{Quiet, quiet-clear, quiet-more, passed-line, passed-all}
 use Rattle.name_search.proofs.next_candidate.Statement.{statement}
 use Rattle.name_search.proofs.next_candidate.Tie as tie
-use Rattle.name_search.proofs.next_candidate.Reads as reads
-use Rattle.name_search.proofs.next_candidate.Lts as lts
-use Rattle.name_search.proofs.is_hit.Reads as is-hit-reads
-use Rattle.name_search.proofs.line_of.Reads as line-of-reads
-use Rattle.name_search.proofs.next_mark.Reads as next-mark-reads
 
 abbrev Inv-loop : tie.InvT-loop
 Inv-loop s end name len i₀ i = Quiet s name (end - 2) i × (end ≤ i + 2) × (i + 2 ≤ length s)

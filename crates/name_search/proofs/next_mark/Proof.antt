@@ -7,10 +7,6 @@ use Rattle.name_search.specs.Marks.{Passed}
 use Rattle.name_search.proofs.Places.{clear-to, clear-join}
 use Rattle.name_search.proofs.next_mark.Statement.{statement}
 use Rattle.name_search.proofs.next_mark.Tie as tie
-use Rattle.name_search.proofs.next_mark.Reads as reads
-use Rattle.name_search.proofs.next_mark.Lts as lts
-use Rattle.name_search.proofs.first_mark.Reads as first-mark-reads
-use Rattle.name_search.proofs.skip_blocks.Reads as skip-blocks-reads
 
 abbrev Inv-loop : tie.InvT-loop
 Inv-loop s at name last i₀ i = Passed s (length name) at i

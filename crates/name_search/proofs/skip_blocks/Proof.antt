@@ -1,15 +1,12 @@
 -- `name_search::skip_blocks` meets its contract: the blocks passed have no mark.
 -- Assumes nothing.
-use Prim.Native.Nat.{_+_, _-_}
+use Prim.Native.Nat.{_-_}
 use native.Mathlib.Omega.{arith}
 use lib.ListN.{length}
 use Rattle.name_search.specs.Marks.{Passed}
 use Rattle.name_search.proofs.Places.{clear-none, clear-join}
 use Rattle.name_search.proofs.skip_blocks.Statement.{statement}
 use Rattle.name_search.proofs.skip_blocks.Tie as tie
-use Rattle.name_search.proofs.skip_blocks.Reads as reads
-use Rattle.name_search.proofs.skip_blocks.Lts as lts
-use Rattle.name_search.proofs.any_mark.Reads as any-mark-reads
 
 abbrev Inv-loop : tie.InvT-loop
 Inv-loop s at name len reach i₀ i = Passed s (length name) at i

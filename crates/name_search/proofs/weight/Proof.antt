@@ -4,10 +4,6 @@ use Rattle.name_search.proofs.Weights.{separator-part, end-part, mask-o
 use borrow.Author.Needs.{needs}
 use Rattle.name_search.proofs.weight.Statement.{statement}
 use Rattle.name_search.proofs.weight.Tie as tie
-use Rattle.name_search.proofs.weight.Reads as reads
-use Rattle.name_search.proofs.weight.Lts as lts
-use Rattle.name_search.proofs.mask.Reads as mask-reads
-use Rattle.std.proofs.num.wrapping_add_u8.Reads as wrapping-add-u8-reads
 
 wrapping-add-u8-requires : tie.Need-wrapping-add-u8-requires
 wrapping-add-u8-requires c κs = search needs
