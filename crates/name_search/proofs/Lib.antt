@@ -1,4 +1,3 @@
-mod Weights
 mod Places
 mod Looking
 mod LineEnds

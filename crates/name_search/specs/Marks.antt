@@ -1,4 +1,4 @@
--- Marks: the places where a name as long as the asked one may stand, and what the functions of the search answer of them.
+-- Marks: the places behind which the asked name can start, and what the functions of the search answer of them.
 use Prim.Native.Nat.{ℕ, _+_, _≤_, _<_}
 use mathlib.Core.Path.{_≡_}
 use mathlib.Core.Bool.{false}
@@ -15,30 +15,15 @@ use Rattle.lines.specs.declared.Next.the-variants.{To, Last}
 abbrev pub Separator : ℕ → Type 0
 Separator b = (b ≡ 10) ⊎ (b ≡ 124)
 
--- A byte that ends a name: a newline, a colon (58) or a bar.
-abbrev pub Ending : ℕ → Type 0
-Ending b = (b ≡ 10) ⊎ ((b ≡ 58) ⊎ (b ≡ 124))
+-- From the place a on and before b, there is no mark: no separator with the byte f after it.
+pub record Clear (s : List ℕ) (f a b : ℕ) : Type 0 where
+  pub none : (i : ℕ) → a ≤ i → i < b → Separator (getD s i 0) → getD s (i + 1) 0 ≡ f → ⊥
 
--- A name ends at the place j, or the database does.
-abbrev pub Ends : List ℕ → ℕ → Type 0
-Ends s j = Ending (getD s j 0) ⊎ (length s ≤ j)
-
--- After the three bytes from the place i on, a name of `size` bytes may stand. The third is a separator. Either no backslash (92) stands
--- before it, and what follows ends after `size` bytes; or one does, and no colon before that, so that a name may be cut there. (With a
--- colon before it, the separator stands among a line's fields.)
-pub data Mark (s : List ℕ) (size i : ℕ) : Type 0 where
-  fits : Separator (getD s (i + 2) 0) → (getD s (i + 1) 0 ≡ 92 → ⊥) → Ends s (i + 3 + size) → Mark s size i
-  cut : Separator (getD s (i + 2) 0) → getD s (i + 1) 0 ≡ 92 → (getD s i 0 ≡ 58 → ⊥) → Mark s size i
-
--- From the place a on and before b, there is no mark.
-pub record Clear (s : List ℕ) (size a b : ℕ) : Type 0 where
-  pub none : (i : ℕ) → a ≤ i → i < b → Mark s size i → ⊥
-
--- What the functions that pass over places without a mark answer; three bytes are left there, or the place is the last but one.
-pub record Passed (s : List ℕ) (size a r : ℕ) : Type 0 where
+-- What the functions that pass over places without a mark answer.
+pub record Passed (s : List ℕ) (f a r : ℕ) : Type 0 where
   pub from : a ≤ r
-  pub inside : r + 2 ≤ length s
-  pub clear : Clear s size a r
+  pub inside : r < length s
+  pub clear : Clear s f a r
 
 -- The first name of the text at the place p is not n.
 abbrev pub Other : List ℕ → List ℕ → ℕ → Type 0

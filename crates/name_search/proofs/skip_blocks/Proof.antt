@@ -9,13 +9,10 @@ use Rattle.name_search.proofs.skip_blocks.Statement.{statement}
 use Rattle.name_search.proofs.skip_blocks.Tie as tie
 
 abbrev Inv-loop : tie.InvT-loop
-Inv-loop s at name len reach i₀ i = Passed s (length name) at i
+Inv-loop s at first len i₀ i = Passed s first at i
 
 abbrev μ-loop : tie.MeasureT-loop
-μ-loop s at name len reach i₀ i = length s - i
-
-add-reach : tie.Need-add-reach Inv-loop μ-loop
-add-reach c = omega arith
+μ-loop s at first len i₀ i = length s - i
 
 loop-holds : tie.Need-loop-holds Inv-loop μ-loop
 loop-holds c = record { from = omega arith; inside = omega arith; clear = clear-none _ (omega arith) }
@@ -47,7 +44,6 @@ skip-blocks-spec =
     (tie.spec
     Inv-loop
     μ-loop
-    add-reach
     loop-holds
     sub-loop
     any-mark-requires
