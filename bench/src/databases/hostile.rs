@@ -21,7 +21,7 @@ const OVEN: &str = "oven-1";
 pub const ID: &[u8] = b"zq";
 
 pub fn all() -> Vec<Hostile> {
-    let mut all = vec![chain_of_32()];
+    let mut all = chains_of_32();
     all.extend(many_fields());
     all.extend(escapes());
     all.extend(many_lines());
@@ -47,21 +47,28 @@ fn filled(start: &str, part: &str, end: &str) -> Vec<u8> {
 }
 
 /// Every link searches the whole database again.
-fn chain_of_32() -> Hostile {
-    let name = |place: usize| format!("link-{place:02}");
-    let mut chain = String::new();
+fn chains_of_32() -> Vec<Hostile> {
+    let link = |place: usize| format!("link-{place:02}");
+    let mut chain = String::from("\n");
     for place in 0..31 {
-        chain += &format!("{}:am:tc={}:\n", name(place), name(place + 1));
+        chain += &format!("{}:am:tc={}:\n", link(place), link(place + 1));
     }
-    chain += &format!("{}:am:", name(31));
-    let mut database = Large::new(LIMIT - chain.len() - 1).bytes;
-    // A comment fills what is left.
-    database.resize(LIMIT - chain.len() - 1, b'#');
-    database.push(b'\n');
-    database.extend_from_slice(chain.as_bytes());
-    let linked = (1..32).map(|place| name(place).into_bytes()).collect();
-    let hostile = read("a chain of 32 at the very end", database, Reading::Flag, b"link-00");
-    Hostile { linked, ..hostile }
+    chain += &format!("{}:am:", link(31));
+    let before = LIMIT - chain.len();
+    // In each line the first search stops at every name, and finds the asked one among the fields.
+    let names: String = (0..32).map(|place| format!("|{}", link(place))).collect();
+    let decoys = format!("x:{names}:\n").repeat(before / (names.len() + 4)).into_bytes();
+    let behind = |name, mut database: Vec<u8>| {
+        // A comment fills what is left.
+        database.resize(before, b'#');
+        database.extend_from_slice(chain.as_bytes());
+        let linked = (1..32).map(|place| link(place).into_bytes()).collect();
+        Hostile { linked, ..read(name, database, Reading::Flag, b"link-00") }
+    };
+    vec![
+        behind("a chain of 32 at the very end", Large::new(before).bytes),
+        behind("a chain of 32 behind fields with its names", decoys),
+    ]
 }
 
 fn many_fields() -> Vec<Hostile> {
