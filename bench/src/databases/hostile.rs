@@ -123,6 +123,22 @@ fn many_pairs() -> Vec<Hostile> {
         show("half a million pairs", filled("", PAIR, ""), OVEN),
         show("names cut by pairs, in lines", filled("", &line, ""), OVEN),
         show("names cut by pairs, on one line", filled("", &(cut("oven-2") + "|"), ""), OVEN),
+        show(
+            "a name cut at every byte, 64 bytes asked",
+            filled("", &cut("o"), ""),
+            &"o".repeat(64),
+        ),
+        show(
+            "the same, with more pairs",
+            filled("", &cut("o").replace(PAIR, &PAIR.repeat(9)), ""),
+            &"o".repeat(64),
+        ),
+        show(
+            "fields cut at every byte, 64 bytes asked",
+            filled("x:", &cut("o"), ""),
+            &"o".repeat(64),
+        ),
+        show("lines continued behind a colon, 2 asked", filled("x", ":\\\noo", ""), "oo"),
         show("a comment with a pair at every third byte", filled("#", "x\\\n", "\n"), OVEN),
         show("fields with a pair at every third byte", filled("x:", "a\\\n", "\n"), OVEN),
         show("empty names cut by pairs", filled("", "|\\\n", "\n"), "b"),

@@ -1,6 +1,6 @@
 // Finds the line of a terminal in a termcap database, 16 bytes at a time: it looks for places where the asked name can start, its first
-// byte behind a newline or a bar, and not for the ends of lines. A name there is compared only if its length fits, and only then is its
-// line looked at.
+// byte behind a newline or a bar, and not for the ends of lines. A name there is compared only if its length fits, and only where it is
+// the asked one, or may be cut by a backslash and a newline, is its line looked at.
 use lines::Next;
 use lines::is_ignored;
 use lines::is_name;
@@ -12,7 +12,7 @@ ghost use mathlib.Core.Bool.{false};
 ghost use mathlib.Core.Path.{_≡_};
 ghost use lib.ListN.{length};
 ghost use Rattle.spec.specs.Lines.{findLine};
-ghost use Rattle.name_search.specs.Marks.{Clear, Passed, Closes, LineOf, NextCandidate};
+ghost use Rattle.name_search.specs.Marks.{Clear, Passed, Other, Closes, LineOf, NextCandidate};
 
 // Whether one of the 16 places from `at` on has a newline or a bar, and `first` after it. There is no branch in it, so that it compiles to
 // comparisons of 16 bytes at once.
@@ -84,6 +84,34 @@ fn line_of(s: &[u8], end: usize, at: usize) -> usize
     i
 }
 
+// Whether the newline at a place vanishes among the names of its line: after a backslash, and no colon before that. What stands behind
+// it goes on with a name that was seen already, so names there are not measured again and again.
+fn is_cut(s: &[u8], at: usize) -> bool
+    requires { do ⌜ at < (← ⟦s.len()⟧) ⌝ }
+{
+    if at < 2 {
+        return false;
+    }
+    if s[at] != 10 {
+        return false;
+    }
+    if s[at - 1] != 92 {
+        return false;
+    }
+    s[at - 2] != 58
+}
+
+// Whether the line of a mark has to be looked at: its name may be cut there, or the name behind the mark is the asked one.
+fn is_hit(s: &[u8], at: usize, name: &[u8]) -> bool
+    requires { do ⌜ at + 1 < (← ⟦s.len()⟧) ⌝ }
+    ensures { λ r. ⌜ (r ≡ false → Other (now (s .entry)) (now (name .entry)) (at + 1)) ⌝ }
+{
+    if is_cut(s, at) {
+        return true;
+    }
+    is_name(s, at + 1, name)
+}
+
 // Where a line starts, behind the line that ends at `end`, such that no line between the two has the name. An empty name has no first
 // byte to look for: each line may have it.
 fn next_candidate(s: &[u8], end: usize, name: &[u8]) -> Next
@@ -101,7 +129,7 @@ fn next_candidate(s: &[u8], end: usize, name: &[u8]) -> Next
     let first = name[0];
     let mut i = next_mark(s, end, first);
     while len - i > 1 {
-        if is_name(s, i + 1, name) {
+        if is_hit(s, i, name) {
             return Next::To(line_of(s, end, i + 1));
         }
         i = next_mark(s, i + 1, first);

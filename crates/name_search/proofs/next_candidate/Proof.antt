@@ -1,7 +1,7 @@
 -- `name_search::next_candidate` meets its contract: the name behind each mark before the loop's place is another one.
 -- Assumes nothing.
 use Prim.Native.Nat.{_≤_, _<_, _-_}
-use mathlib.Core.Path.{_≡_, sym, _∙_}
+use mathlib.Core.Path.{_≡_}
 use native.Mathlib.Omega.{arith}
 use lib.ListN.{length}
 use Rattle.name_search.proofs.LineEnds.{none-behind, next-behind}
@@ -44,11 +44,8 @@ loop-holds c =
 sub-loop : tie.Need-sub-loop Inv-loop μ-loop
 sub-loop c = omega arith
 
-add-is-name : tie.Need-add-is-name Inv-loop μ-loop
-add-is-name c = omega arith
-
-is-name-requires : tie.Need-is-name-requires Inv-loop μ-loop
-is-name-requires c κs = tt
+is-hit-requires : tie.Need-is-hit-requires Inv-loop μ-loop
+is-hit-requires c κs = omega arith
 
 add-line-of : tie.Need-add-line-of Inv-loop μ-loop
 add-line-of c = omega arith
@@ -73,7 +70,7 @@ loop-less c =
 loop-again : tie.Need-loop-again Inv-loop μ-loop
 loop-again c =
     let p = c .next-mark2 .ensures in
-    (quiet-more (c .before .before .before .before .loop .inv .0) (sym (c .before .before .is-name .ensures) ∙ c .before .if3 .left) (p .clear), omega (arith, p .from), p .inside)
+    (quiet-more (c .before .before .before .before .loop .inv .0) (c .before .before .is-hit .ensures (c .before .if3 .left)) (p .clear), omega (arith, p .from), p .inside)
 
 returns-4 : tie.Need-returns-4 Inv-loop μ-loop
 returns-4 c = passed-all (omega arith) (c .before .loop .inv .0) (omega arith) (omega arith)
@@ -91,8 +88,7 @@ next-candidate-spec =
     next-mark-requires
     loop-holds
     sub-loop
-    add-is-name
-    is-name-requires
+    is-hit-requires
     add-line-of
     line-of-requires
     returns-3
