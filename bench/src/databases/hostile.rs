@@ -40,10 +40,11 @@ fn read(name: &'static str, database: Vec<u8>, reading: Reading, asked: &[u8]) -
     Hostile { name, database, reading, asked: asked.to_vec(), linked: Vec::new() }
 }
 
-/// `start`, then `part` as often as it fits, then `end`.
+/// `start`, then `part` as often as it fits, then `end`; before them a short line, since a search reads the first line by itself.
 fn filled(start: &str, part: &str, end: &str) -> Vec<u8> {
+    let start = String::from("y:\n") + start;
     let times = (LIMIT - start.len() - end.len()) / part.len();
-    [start, &part.repeat(times), end].concat().into_bytes()
+    [&start, &part.repeat(times), end].concat().into_bytes()
 }
 
 /// Every link searches the whole database again.
