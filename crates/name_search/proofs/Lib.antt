@@ -1,4 +1,6 @@
 mod Places
 mod Looking
 mod LineEnds
+mod Spelling
 mod Passing
+mod Blocks

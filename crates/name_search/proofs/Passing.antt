@@ -1,70 +1,23 @@
--- Lines are passed over as a whole: where the name starts behind no mark up to the end of a line, no line up to there has it.
+-- Lines are passed over as a whole: where each place up to the end of a line is settled, no line up to there has the name.
 -- Assumes nothing.
-use Prim.Native.Nat.{ℕ, zero, suc, _+_, _≤_, _<_}
+use Prim.Native.Nat.{ℕ, zero, suc, _+_, _-_, _≤_, _<_}
 use mathlib.Core.Path.{_≡_, refl, _∙_, ap, sym}
 use mathlib.Core.Bool.{Bool, true, false}
 use mathlib.Core.List.{List, [], _∷_}
 use mathlib.Core.Logic.{_⊎_, inl, inr, ⊎-elim}
 use native.Mathlib.Omega.{arith}
-use borrow.Author.Tests.{eqb-true, eqb-false, ne-eqb, ltb-true, ltb-false}
+use borrow.Author.Tests.{eqb-true, eqb-false, ltb-true, ltb-false}
 use lib.Dec.{eqb, ltb}
 use lib.ListN.{length, getD}
 use Rattle.spec.specs.declared.Found.the-variants.{Nothing}
-use Rattle.spec.specs.Lines.{Text, end, byte, textAt, lineText, laterLines, firstName, laterNames, find}
+use Rattle.spec.specs.Lines.{Text, byte, textAt, lineText, laterLines, firstName, laterNames, find}
 use Rattle.spec.specs.Lists.{upto, laterPieces, same, among}
 use Rattle.spec.proofs.TextSteps as Laws
-use Rattle.name_search.specs.Marks.{Separator, Clear, Other, Closes, LineOf, Candidate}
+use Rattle.spec.proofs.TextSteps.{rest}
+use Rattle.name_search.specs.Marks.{Separator, Stops, Spelled, Inside, Quiet, Other, Closes, LineOf, Candidate}
 use Rattle.name_search.proofs.LineEnds.{none-behind, next-behind}
-use Rattle.name_search.proofs.Looking.{Look, over, pair, one, look}
-
--- From the place a on and before b, the name behind each mark is not n.
-pub record Quiet (s n : List ℕ) (a b : ℕ) : Type 0 where
-  pub other : (i : ℕ) → a ≤ i → i < b → Separator (getD s i 0) → getD s (i + 1) 0 ≡ getD n 0 0 → Other s n (i + 1)
-
-pub quiet-clear : {s n : List ℕ} {a b : ℕ} → Clear s (getD n 0 0) a b → Quiet s n a b
-quiet-clear cl = record { other = λ i l m x y. absurd (cl .none i l m x y) }
-
--- one mark more, and then none up to r
-pub quiet-more : {s n : List ℕ} {a p r : ℕ} → Quiet s n a p → Other s n (p + 1) → Clear s (getD n 0 0) (p + 1) r → Quiet s n a r
-quiet-more {s} {n} {a} {p} {r} q o cl = record { other = λ i l m x y. go i l m x y (ltb i p) (eqb i p) refl refl }
-  where
-    go : (i : ℕ) → a ≤ i → i < r → Separator (getD s i 0) → getD s (i + 1) 0 ≡ getD n 0 0 → (u v : Bool) → ltb i p ≡ u → eqb i p ≡ v → Other s n (i + 1)
-    go i l m x y true v e d = q .other i l (ltb-true i p e) x y
-    go i l m x y false true e d =
-        let z = eqb-true i p d in
-        rw z o
-    go i l m x y false false e d =
-        let w = ltb-false i p e in
-        let z = eqb-false i p d in
-        absurd (cl .none i (omega arith) m x y)
-
--- ---- a name that is not empty, against the end of a line and against a byte that is not its first
-
-same-nil : (n : List ℕ) → 0 < length n → same n [] ≡ false
-unfolding same
-same-nil [] h = absurd (omega arith)
-same-nil (x ∷ n) h = refl
-
-same-other : (n : List ℕ) (b : ℕ) (l : List ℕ) → 0 < length n → (b ≡ getD n 0 0 → ⊥) → same n (b ∷ l) ≡ false
-unfolding same
-same-other [] b l h f = absurd (omega arith)
-same-other (x ∷ n) b l h f = rw (ne-eqb x b (λ e. f (sym e)))
-
-other-byte : (n : List ℕ) (b m : ℕ) (t : Text) → 0 < length n → (b ≡ getD n 0 0 → ⊥) → same n (firstName (lineText (byte b m t))) ≡ false
-other-byte n b m t h f = go (eqb b 10) (eqb b 58) (eqb b 124) refl refl refl
-  where
-    ends : firstName (lineText (byte b m t)) ≡ [] → same n (firstName (lineText (byte b m t))) ≡ false
-    ends e = ap (same n) e ∙ same-nil n h
-
-    go : (x y z : Bool) → eqb b 10 ≡ x → eqb b 58 ≡ y → eqb b 124 ≡ z → same n (firstName (lineText (byte b m t))) ≡ false
-    go true y z u v w = ends (Laws.name-end b m t (inl (eqb-true _ _ u)))
-    go false true z u v w = ends (Laws.name-end b m t (inr (inl (eqb-true _ _ v))))
-    go false false true u v w = ends (Laws.name-end b m t (inr (inr (eqb-true _ _ w))))
-    go false false false u v w = ap (same n) (Laws.name-on b m t (⊎-elim (eqb-false _ _ u) (⊎-elim (eqb-false _ _ v) (eqb-false _ _ w)))) ∙ same-other n b _ h f
-
-other-end : (n : List ℕ) (t : Text) → 0 < length n → lineText t ≡ [] → same n (firstName (lineText t)) ≡ false
-unfolding firstName upto
-other-end n t h e = rw e (same-nil n h)
+use Rattle.name_search.proofs.Looking.{Pair, Look, over, pair, one, look}
+use Rattle.name_search.proofs.Spelling.{Ending, Stands, Begins, with-pair, with-byte, some-left, begins, ends, first-end, text-done}
 
 none-end : (n : List ℕ) (t : Text) → lineText t ≡ [] → among n (laterNames (lineText t)) ≡ false
 unfolding among laterNames upto laterPieces
@@ -74,13 +27,28 @@ among-nil : (n : List ℕ) → among n [] ≡ false
 unfolding among
 among-nil n = refl
 
-text-done : (t : Text) → t ≡ end → lineText t ≡ []
-unfolding lineText
-text-done t e = rw e
+all-left : (s n : List ℕ) (p : ℕ) → same n (firstName (lineText (textAt s p))) ≡ true → Stands s n 0 p
+unfolding rest
+all-left s n p x = x
+
+moved : (s : List ℕ) {i j : ℕ} → i ≡ j → Stops s i → Stops s j
+moved s e x = rw (← e) x
+
+stop-at : (s : List ℕ) (p : ℕ) → (Ending (getD s p 0) ⊎ Pair s p) ⊎ (length s ≤ p) → Stops s p
+stop-at s p (inl (inl (inl e))) = inl (inl e)
+stop-at s p (inl (inl (inr (inl e)))) = inl (inr (inl e))
+stop-at s p (inl (inl (inr (inr e)))) = inl (inr (inr (inr e)))
+stop-at s p (inl (inr x)) = inl (inr (inr (inl (x .0))))
+stop-at s p (inr h) = inr h
+
+-- what may follow a pair inside the name
+pub may-follow : (s n : List ℕ) (i p : ℕ) → i < length n → Begins s n i p → Inside n (getD s p 0)
+may-follow s n i p h (with-pair q x t) = inr (x .0)
+may-follow s n i p h (with-byte e f x) = inl (i, h, sym e)
 
 -- ---- up to the end of a line at e
 
-module _ {s n : List ℕ} {a b e : ℕ} (some : 0 < length n) (quiet : Quiet s n a b) (inside : e ≤ length s) (closes : e < length s → Closes s e) (near : e ≤ b + 1) where
+module _ {s n : List ℕ} {a b e : ℕ} (quiet : Quiet s n a b) (inside : e ≤ length s) (closes : e < length s → Closes s e) (near : e ≤ b + 2) where
   ended : lineText (textAt s e) ≡ []
   ended = go (ltb e (length s)) refl
     where
@@ -101,39 +69,87 @@ module _ {s n : List ℕ} {a b e : ℕ} (some : 0 < length n) (quiet : Quiet s n
           let w : e ≤ i + 1 = ltb-false (i + 1) e x in
           absurd (closes (omega arith) .alone i (omega arith) f)
 
-  -- the name behind a separator; a pair leads on to its newline, which is a separator too
-  abbrev OtherTo : ℕ → Type 0
-  OtherTo d = (k : ℕ) → a ≤ k → k + 1 ≤ e → e < k + 1 + d → Separator (getD s k 0) → Other s n (k + 1)
+  -- what is left of the name, d bytes, is spelled behind the place j where it stands there: no pair cuts it
+  abbrev SpelledTo : ℕ → Type 0
+  SpelledTo d =
+      (i j : ℕ) → i + d ≡ length n → a ≤ j → j + 1 ≤ e → (getD s j 0 ≡ 58 → ⊥) → Stands s n i (j + 1)
+      → Stops s (j + 1 + d) × ((m : ℕ) → m < d → getD s (j + 1 + m) 0 ≡ getD n (i + m) 0)
 
-  other-step : (d : ℕ) → OtherTo d → OtherTo (suc d)
-  other-step d more k h l m sep = go (eqb (k + 1) e) refl
+  spelled-step : (d : ℕ) → SpelledTo d → SpelledTo (suc d)
+  spelled-step d more i j h l m f x = go (eqb (j + 1) e) refl
     where
-      first : k + 1 < e → textAt s (k + 1) ≡ byte (getD s (k + 1) 0) (k + 1 + 1) (textAt s (k + 1 + 1)) → (x : Bool) → eqb (getD s (k + 1) 0) (getD n 0 0) ≡ x → Other s n (k + 1)
-      first p t true x = quiet .other k h (omega arith) sep (eqb-true _ _ x)
-      first p t false x = rw t (other-byte n _ _ _ some (eqb-false _ _ x))
+      some : i < length n
+      some = omega arith
 
-      inner : k + 1 < e → Look s (k + 1) → Other s n (k + 1)
-      inner p (over q) = absurd (omega (arith, inside))
-      inner p (pair q x t) =
-          let far = clear-of-end (k + 1) p q (x .0) in
-          rw t (more (k + 1 + 1) (omega arith) (omega arith) (omega arith) (inl (x .1)))
-      inner p (one q x t) = first p t (eqb (getD s (k + 1) 0) (getD n 0 0)) refl
+      no-cut : j + 1 < e → j + 1 + 1 < length s → Pair s (j + 1) → textAt s (j + 1) ≡ textAt s (j + 1 + 1 + 1) → ⊥
+      no-cut p q y t =
+          let far = clear-of-end (j + 1) p q (y .0) in
+          let second : j + 1 + 1 ≡ j + 2 = omega arith in
+          let third : j + 1 + 1 + 1 ≡ j + 3 = omega arith in
+          let after = may-follow s n i (j + 1 + 1 + 1) some (begins s n i (j + 1 + 1 + 1) some (rw t at x)) in
+          quiet .holds j l (omega arith) .uncut (rw second at (y .1)) (y .0) f (rw third at after)
 
-      go : (x : Bool) → eqb (k + 1) e ≡ x → Other s n (k + 1)
-      go true x =
-          let z = eqb-true (k + 1) e x in
-          rw z (other-end n _ some ended)
-      go false x =
-          let z = eqb-false (k + 1) e x in
-          inner (omega arith) (look s (k + 1))
+      on : j + 1 < e → getD s (j + 1) 0 ≡ getD n i 0 → (getD s (j + 1) 0 ≡ 58 → ⊥) → Stands s n (i + 1) (j + 1 + 1) → Stops s (j + 1 + suc d) × ((k : ℕ) → k < suc d → getD s (j + 1 + k) 0 ≡ getD n (i + k) 0)
+      on p c g y =
+          let w = more (i + 1) (j + 1) (omega arith) (omega arith) (omega arith) g y in
+          (moved s (omega arith) (w .0), λ k u. byte-at k u (eqb k 0) refl)
+        where
+          w : Stops s (j + 1 + 1 + d) × ((k : ℕ) → k < d → getD s (j + 1 + 1 + k) 0 ≡ getD n (i + 1 + k) 0)
+          w = more (i + 1) (j + 1) (omega arith) (omega arith) (omega arith) g y
 
-  other-at : (d : ℕ) → OtherTo d
-  other-at zero = λ k h l m. absurd (omega arith)
-  other-at (suc d) = other-step d (other-at d)
+          byte-at : (k : ℕ) → k < suc d → (v : Bool) → eqb k 0 ≡ v → getD s (j + 1 + k) 0 ≡ getD n (i + k) 0
+          byte-at k u true v =
+              let z : k ≡ 0 = eqb-true k 0 v in
+              let left : j + 1 + k ≡ j + 1 = omega arith in
+              let right : i + k ≡ i = omega arith in
+              rw (left, right) c
+          byte-at k u false v =
+              let z = eqb-false k 0 v in
+              let left : j + 1 + k ≡ j + 1 + 1 + (k - 1) = omega arith in
+              let right : i + k ≡ i + 1 + (k - 1) = omega arith in
+              rw (left, right) (w .1 (k - 1) (omega arith))
+
+      inner : j + 1 < e → Begins s n i (j + 1) → Stops s (j + 1 + suc d) × ((k : ℕ) → k < suc d → getD s (j + 1 + k) 0 ≡ getD n (i + k) 0)
+      inner p (with-pair q y t) = absurd (no-cut p q y t)
+      inner p (with-byte c g y) = on p c g y
+
+      go : (y : Bool) → eqb (j + 1) e ≡ y → Stops s (j + 1 + suc d) × ((k : ℕ) → k < suc d → getD s (j + 1 + k) 0 ≡ getD n (i + k) 0)
+      go true y =
+          let z = eqb-true (j + 1) e y in
+          absurd (some-left s n i (j + 1) some x (rw z (first-end _ ended)))
+      go false y =
+          let z = eqb-false (j + 1) e y in
+          inner (omega arith) (begins s n i (j + 1) some x)
+
+  spelled : (d : ℕ) → SpelledTo d
+  spelled zero = λ i j h l m f x. (moved s (omega arith) (stop-at s _ (ends s n i (j + 1) (omega arith) x)), λ k u. absurd (omega arith))
+  spelled (suc d) = spelled-step d (spelled d)
+
+  -- the name behind a separator
+  other-at : (i : ℕ) → a + 2 ≤ i → i < e → Separator (getD s i 0) → Other s n (i + 1)
+  other-at i h l sep = go (same n (firstName (lineText (textAt s (i + 1))))) refl
+    where
+      no-colon : Separator (getD s i 0) → getD s i 0 ≡ 58 → ⊥
+      no-colon (inl e) f = omega arith
+      no-colon (inr e) f = omega arith
+
+      go : (z : Bool) → same n (firstName (lineText (textAt s (i + 1)))) ≡ z → Other s n (i + 1)
+      go true z =
+          let w = spelled (length n) 0 i (omega arith) (omega arith) (omega arith) (no-colon sep) (all-left s n (i + 1) z) in
+          let here : i ≡ i - 2 + 2 = omega arith in
+          let next : i + 1 ≡ i - 2 + 3 = omega arith in
+          rw next (quiet .holds (i - 2) (omega arith) (omega arith) .other (rw here at sep) (λ k u. shifted k (w .1 k u)) (rw next at (w .0)))
+        where
+          shifted : (k : ℕ) → getD s (i + 1 + k) 0 ≡ getD n (0 + k) 0 → getD s (i - 2 + 3 + k) 0 ≡ getD n k 0
+          shifted k x =
+              let left : i + 1 + k ≡ i - 2 + 3 + k = omega arith in
+              let right : 0 + k ≡ k = omega arith in
+              rw (left, right) at x
+      go false z = z
 
   -- the names behind the place i
   abbrev OthersTo : ℕ → Type 0
-  OthersTo d = (i : ℕ) → a ≤ i → i ≤ e → e < i + d → among n (laterNames (lineText (textAt s i))) ≡ false
+  OthersTo d = (i : ℕ) → a + 2 ≤ i → i ≤ e → e < i + d → among n (laterNames (lineText (textAt s i))) ≡ false
 
   others-step : (d : ℕ) → OthersTo d → OthersTo (suc d)
   others-step d more i h l m = go (eqb i e) refl
@@ -143,7 +159,7 @@ module _ {s n : List ℕ} {a b e : ℕ} (some : 0 < length n) (quiet : Quiet s n
       at-byte p false true z u v w = rw (Laws.names-end _ _ _ (inr (eqb-true _ _ v))) (among-nil n)
       at-byte p false false true u v w =
           rw (Laws.names-cut _ _ _ (eqb-true _ _ w))
-          (Laws.among-next _ _ _ (other-at (e + 1) i h (omega arith) (omega arith) (inr (eqb-true _ _ w))) ∙ more (i + 1) (omega arith) (omega arith) (omega arith))
+          (Laws.among-next _ _ _ (other-at i h p (inr (eqb-true _ _ w))) ∙ more (i + 1) (omega arith) (omega arith) (omega arith))
       at-byte p false false false u v w =
           rw (Laws.names-on _ _ _ (⊎-elim (eqb-false _ _ u) (eqb-false _ _ v)) (eqb-false _ _ w)) (more (i + 1) (omega arith) (omega arith) (omega arith))
 
@@ -168,14 +184,14 @@ module _ {s n : List ℕ} {a b e : ℕ} (some : 0 < length n) (quiet : Quiet s n
 
   -- the lines behind the place i
   abbrev PassTo : ℕ → Type 0
-  PassTo d = (i : ℕ) → a ≤ i → i ≤ e → e < i + d → find n (laterLines (textAt s i)) ≡ find n (laterLines (textAt s e))
+  PassTo d = (i : ℕ) → a + 2 ≤ i → i ≤ e → e < i + d → find n (laterLines (textAt s i)) ≡ find n (laterLines (textAt s e))
 
   pass-step : (d : ℕ) → PassTo d → PassTo (suc d)
   pass-step d more i h l m = go (eqb i e) refl
     where
       at-byte : i < e → (x : Bool) → eqb (getD s i 0) 10 ≡ x → find n (laterLines (byte (getD s i 0) (i + 1) (textAt s (i + 1)))) ≡ find n (laterLines (textAt s e))
       at-byte p true x =
-          let none = Laws.among-next _ _ _ (other-at (e + 1) i h (omega arith) (omega arith) (inl (eqb-true _ _ x))) ∙ others (e + 1) (i + 1) (omega arith) (omega arith) (omega arith) in
+          let none = Laws.among-next _ _ _ (other-at i h p (inl (eqb-true _ _ x))) ∙ others (e + 1) (i + 1) (omega arith) (omega arith) (omega arith) in
           ap (find n) (Laws.lines-cut _ _ _ (eqb-true _ _ x)) ∙ Laws.find-on n (i + 1) (textAt s (i + 1)) none ∙ more (i + 1) (omega arith) (omega arith) (omega arith)
       at-byte p false x = ap (find n) (Laws.lines-on _ _ _ (eqb-false _ _ x)) ∙ more (i + 1) (omega arith) (omega arith) (omega arith)
 
@@ -196,16 +212,19 @@ module _ {s n : List ℕ} {a b e : ℕ} (some : 0 < length n) (quiet : Quiet s n
   pass zero = λ i h l m. absurd (omega arith)
   pass (suc d) = pass-step d (pass d)
 
-  pub passed : a ≤ e → find n (laterLines (textAt s a)) ≡ find n (laterLines (textAt s e))
-  passed h = pass (e + 1) a (omega arith) h (omega arith)
+  pub passed : (i : ℕ) → i ≡ a + 2 → i ≤ e → find n (laterLines (textAt s i)) ≡ find n (laterLines (textAt s e))
+  passed i f h = pass (e + 1) i (omega arith) h (omega arith)
 
--- ---- from a place: to the start of a line, and to the end of the database
+-- ---- from the end of a line: to the start of the next, to that of another, and to the end of the database
 
-module _ {s n : List ℕ} {a b : ℕ} (some : 0 < length n) (quiet : Quiet s n a b) where
-  pub passed-line : (r : ℕ) → b + 1 < length s → LineOf s a (b + 1) r → Candidate s n a r
+pub next-line : (s n : List ℕ) (e : ℕ) → e < length s → Closes s e → Candidate s n e (e + 1)
+next-line s n e h x = record { inside = omega arith; starts = (e, refl, omega arith, x); passed = next-behind s n e h x }
+
+module _ {s n : List ℕ} {end b : ℕ} (low : 2 ≤ end) (quiet : Quiet s n (end - 2) b) where
+  pub passed-line : (r : ℕ) → b + 2 < length s → LineOf s end (b + 3) r → Candidate s n end r
   passed-line r h x = go (x .starts)
     where
-      go : (f : ℕ) × (r ≡ f + 1) × (a ≤ f) × Closes s f → Candidate s n a r
+      go : (f : ℕ) × (r ≡ f + 1) × (end ≤ f) × Closes s f → Candidate s n end r
       go w =
           let f = w .0 in
           let z : r ≡ f + 1 = w .1 in
@@ -214,8 +233,8 @@ module _ {s n : List ℕ} {a b : ℕ} (some : 0 < length n) (quiet : Quiet s n a
           record {
             inside = omega arith;
             starts = x .starts;
-            passed = rw z (passed some quiet (omega arith) (λ y. w .3) (omega arith) v ∙ next-behind s n f (omega arith) (w .3));
+            passed = rw z (passed quiet (omega arith) (λ y. w .3) (omega arith) end (omega arith) v ∙ next-behind s n f (omega arith) (w .3));
           }
 
-  pub passed-all : a ≤ length s → length s ≤ b + 1 → find n (laterLines (textAt s a)) ≡ Nothing
-  passed-all h l = passed some quiet (omega arith) (λ x. absurd (omega arith)) l h ∙ none-behind s n
+  pub passed-all : end ≤ length s → length s ≤ b + 2 → find n (laterLines (textAt s end)) ≡ Nothing
+  passed-all h l = passed quiet (omega arith) (λ x. absurd (omega arith)) l end (omega arith) h ∙ none-behind s n

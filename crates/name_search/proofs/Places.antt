@@ -1,59 +1,136 @@
--- Places without a mark: the laws of `Clear`.
+-- The laws of what holds of each place of a range, and of the tests that settle a place.
 -- Assumes nothing.
-use Prim.Native.Nat.{ℕ, _+_, _≤_, _<_}
-use mathlib.Core.Path.{_≡_, refl, sym, _∙_}
-use mathlib.Core.Bool.{Bool, true, false, _&&_, _||_, or-true, true≢false}
+use Prim.Native.Nat.{ℕ, _+_, _-_, _≤_, _<_}
+use mathlib.Core.Path.{_≡_, refl, sym}
+use mathlib.Core.Bool.{Bool, true, false, not, _&&_, _||_, true≢false}
 use mathlib.Core.List.{List}
-use mathlib.Core.Logic.{inl, inr}
+use mathlib.Core.Logic.{_⊎_, inl, inr, ⊎-elim}
 use native.Mathlib.Omega.{arith}
-use borrow.Author.Tests.{eq-eqb, eqb-true, eqb-false, ltb-true, ltb-false}
-use lib.Dec.{eqb, ltb}
-use lib.ListN.{getD}
-use Rattle.name_search.specs.Marks.{Separator, Clear}
+use borrow.Author.Tests.{eq-eqb, ne-eqb, le-leb, lt-ltb, eqb-true, eqb-false, ltb-true, ltb-false}
+use lib.Dec.{eqb, leb, ltb}
+use lib.ListN.{length, getD}
+use Rattle.name_search.specs.Marks.{Separator, Stop, Stops, Spelled, Inside, Settled, Each, Quiet, Passed, Start, Startless, Plain}
 
-or-left : (x y : Bool) → (x || y) ≡ false → x ≡ false
+pub or-left : (x y : Bool) → (x || y) ≡ false → x ≡ false
 or-left true y e = e
 or-left false y e = refl
 
-or-right : (x y : Bool) → (x || y) ≡ false → y ≡ false
+pub or-right : (x y : Bool) → (x || y) ≡ false → y ≡ false
 or-right true y e = absurd (true≢false e)
 or-right false y e = e
 
--- the test of a place
-abbrev pub marked : ℕ → ℕ → ℕ → Bool
-marked b c f = (eqb b 10 || eqb b 124) && eqb c f
+-- ---- the tests of a place
 
-marked-true : (b c f : ℕ) → Separator b → c ≡ f → marked b c f ≡ true
-marked-true b c f (inl e) q = rw (eq-eqb b 10 e, eq-eqb c f q)
-marked-true b c f (inr e) q = rw (eq-eqb b 124 e, or-true, eq-eqb c f q)
+separator-true : (b : ℕ) → Separator b → (eqb b 10 || eqb b 124) ≡ true
+separator-true b (inl e) = rw e
+separator-true b (inr e) = rw e
 
-module _ {s : List ℕ} {f a : ℕ} where
-  pub clear-none : (b : ℕ) → b ≤ a → Clear s f a b
-  clear-none b h = record { none = λ i l m. absurd (omega arith) }
+stop-true : (b : ℕ) → Stop b → (((eqb b 10 || eqb b 58) || eqb b 92) || eqb b 124) ≡ true
+stop-true b (inl e) = rw e
+stop-true b (inr (inl e)) = rw e
+stop-true b (inr (inr (inl e))) = rw e
+stop-true b (inr (inr (inr e))) = rw e
 
-  pub clear-to : {b : ℕ} (c : ℕ) → Clear s f a b → c ≤ b → Clear s f a c
-  clear-to c cl h = record { none = λ i l m. cl .none i l (omega arith) }
+pub not-between : (a b : ℕ) → ((eqb a 10 || eqb a 124) && (((eqb b 10 || eqb b 58) || eqb b 92) || eqb b 124)) ≡ false → Separator a → Stop b → ⊥
+not-between a b e x y = true≢false (rw (separator-true a x, stop-true b y) at e)
 
-  pub clear-one : (j : ℕ) → Clear s f a j → (Separator (getD s j 0) → getD s (j + 1) 0 ≡ f → ⊥) → Clear s f a (j + 1)
-  clear-one j cl n = record { none = λ i l m x y. go i l m x y (eqb i j) refl }
+pub not-cut : (a b c : ℕ) → ((eqb c 10 && eqb b 92) && not (eqb a 58)) ≡ false → c ≡ 10 → b ≡ 92 → (a ≡ 58 → ⊥) → ⊥
+not-cut a b c e x y z = true≢false (rw (eq-eqb c 10 x, eq-eqb b 92 y, ne-eqb a 58 z) at e)
+
+pub not-start : (b c : ℕ) → ((eqb b 10 || eqb b 124) && (leb 36 c && ltb c 128)) ≡ false → Start b c → ⊥
+not-start b c e x = true≢false (rw (separator-true b (x .0), le-leb 36 c (x .1), lt-ltb c 128 (x .2)) at e)
+
+-- ---- each place of a range
+
+module _ {P : ℕ → Type 0} {a : ℕ} where
+  pub each-none : (b : ℕ) → b ≤ a → Each P a b
+  each-none b h = record { holds = λ k l m. absurd (omega arith) }
+
+  pub each-to : {b : ℕ} (c : ℕ) → Each P a b → c ≤ b → Each P a c
+  each-to c q h = record { holds = λ k l m. q .holds k l (omega arith) }
+
+  pub each-one : (j : ℕ) → Each P a j → P j → Each P a (j + 1)
+  each-one j q x = record { holds = λ k l m. go k l m (eqb k j) refl }
     where
-      go : (i : ℕ) → a ≤ i → i < j + 1 → Separator (getD s i 0) → getD s (i + 1) 0 ≡ f → (x : Bool) → eqb i j ≡ x → ⊥
-      go i l m x y true e =
-          let z = eqb-true i j e in
-          n (rw z at x) (rw z at y)
-      go i l m x y false e =
-          let z = eqb-false i j e in
-          cl .none i l (omega arith) x y
+      go : (k : ℕ) → a ≤ k → k < j + 1 → (y : Bool) → eqb k j ≡ y → P k
+      go k l m true e =
+          let z = eqb-true k j e in
+          rw z x
+      go k l m false e =
+          let z = eqb-false k j e in
+          q .holds k l (omega arith)
 
-  pub clear-join : {b : ℕ} (j : ℕ) → Clear s f a j → Clear s f j b → Clear s f a b
-  clear-join {b = b} j x y = record { none = λ i l m z w. go i l m z w (ltb i j) refl }
+  pub each-join : {b : ℕ} (j : ℕ) → Each P a j → Each P j b → Each P a b
+  each-join {b = b} j x y = record { holds = λ k l m. go k l m (ltb k j) refl }
     where
-      go : (i : ℕ) → a ≤ i → i < b → Separator (getD s i 0) → getD s (i + 1) 0 ≡ f → (x : Bool) → ltb i j ≡ x → ⊥
-      go i l m z w true e = x .none i l (ltb-true i j e) z w
-      go i l m z w false e = y .none i (ltb-false i j e) m z w
+      go : (k : ℕ) → a ≤ k → k < b → (z : Bool) → ltb k j ≡ z → P k
+      go k l m true e = x .holds k l (ltb-true k j e)
+      go k l m false e = y .holds k (ltb-false k j e) m
 
-  -- one place more, at which the test fails
-  pub clear-or : (hit : Bool) (j : ℕ) → (hit ≡ false → Clear s f a j) → (hit || marked (getD s j 0) (getD s (j + 1) 0) f) ≡ false → Clear s f a (j + 1)
-  clear-or hit j h e =
-      let test = marked (getD s j 0) (getD s (j + 1) 0) f in
-      clear-one j (h (or-left hit test e)) (λ p q. true≢false (sym (marked-true _ _ _ p q) ∙ or-right hit test e))
+-- ---- places passed over
+
+module _ {s n : List ℕ} {a : ℕ} where
+  pub passed-none : (r : ℕ) → r ≡ a → r + 2 ≤ length s → Passed s n a r
+  passed-none r e h = record { from = omega arith; inside = h; quiet = each-none r (omega arith) }
+
+  pub passed-join : {i r : ℕ} → Passed s n a i → Passed s n i r → Passed s n a r
+  passed-join {i = i} x y =
+      let f = x .from in
+      let g = y .from in
+      record { from = omega arith; inside = y .inside; quiet = each-join i (x .quiet) (y .quiet) }
+
+  pub passed-one : {i : ℕ} → Passed s n a i → Settled s n i → i + 1 + 2 ≤ length s → Passed s n a (i + 1)
+  passed-one x y h =
+      let f = x .from in
+      record { from = omega arith; inside = h; quiet = each-one _ (x .quiet) y }
+
+-- ---- a place is settled
+
+-- where no plain name starts
+inside-plain : (n : List ℕ) (b : ℕ) → Plain n → Inside n b → (36 ≤ b) × (b < 128)
+inside-plain n b plain (inl x) =
+    let w = plain .holds (x .0) (omega arith) (x .1) in
+    rw (← x .2) w
+inside-plain n b plain (inr e) = (omega arith, omega arith)
+
+module _ (s n : List ℕ) (plain : Plain n) (some : 0 < length n) where
+  settled-start : (k : ℕ) → (Start (getD s (k + 2) 0) (getD s (k + 2 + 1) 0) → ⊥) → Settled s n k
+  settled-start k none =
+      record { uncut = λ x y z w. start (inl x) w; other = λ x y z. absurd (start x (inl (0, some, sym (first y)))) }
+    where
+      start : Separator (getD s (k + 2) 0) → Inside n (getD s (k + 3) 0) → ⊥
+      start x w =
+          let next : k + 3 ≡ k + 2 + 1 = omega arith in
+          let r = rw next at (inside-plain n (getD s (k + 3) 0) plain w) in
+          none (x, r .0, r .1)
+
+      first : Spelled s n (k + 3) → getD s (k + 3) 0 ≡ getD n 0 0
+      first y =
+          let same : k + 3 + 0 ≡ k + 3 = omega arith in
+          rw same at (y 0 some)
+
+  pub quiet-startless : {a b : ℕ} (c : ℕ) → Startless s c b → c ≡ a + 2 → Quiet s n a (b - 2)
+  quiet-startless {a} {b} c x e = record { holds = λ k l m. settled-start k (x .holds (k + 2) (omega arith) (omega arith)) }
+
+-- where the tests of `any_mark` fail
+pub settled-tests :
+    (s n : List ℕ) (k : ℕ) (fits starts ends cut : Bool)
+    → 0 < length n
+    → k + 3 + length n < length s
+    → (fits ≡ false → Separator (getD s (k + 2) 0) → Stop (getD s (k + 3 + length n) 0) → ⊥)
+    → (starts ≡ false → fits ≡ true → getD s (k + 3) 0 ≡ getD n 0 0 → ⊥)
+    → (ends ≡ false → starts ≡ true → getD s (k + 2 + length n) 0 ≡ getD n (length n - 1) 0 → ⊥)
+    → (cut ≡ false → getD s (k + 2) 0 ≡ 10 → getD s (k + 1) 0 ≡ 92 → (getD s k 0 ≡ 58 → ⊥) → ⊥)
+    → (ends || cut) ≡ false
+    → Settled s n k
+settled-tests s n k fits starts ends cut some h f g l c e =
+    record { uncut = λ x y z w. c (or-right ends cut e) x y z; other = λ x y z. absurd (other x y z fits starts refl refl) }
+  where
+    other : Separator (getD s (k + 2) 0) → Spelled s n (k + 3) → Stops s (k + 3 + length n) → (u v : Bool) → fits ≡ u → starts ≡ v → ⊥
+    other x y z false v p q = ⊎-elim (λ w. f p x w) (λ w. omega arith) z
+    other x y z true false p q =
+        let first : k + 3 + 0 ≡ k + 3 = omega arith in
+        g q p (rw first at (y 0 some))
+    other x y z true true p q =
+        let last : k + 3 + (length n - 1) ≡ k + 2 + length n = omega arith in
+        l (or-left ends cut e) q (rw last at (y (length n - 1) (omega arith)))

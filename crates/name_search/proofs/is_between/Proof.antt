@@ -1,0 +1,11 @@
+-- `name_search::is_between` meets its contract.
+-- Assumes nothing.
+use Rattle.name_search.proofs.Places.{not-between}
+use Rattle.name_search.proofs.is_between.Statement.{statement}
+use Rattle.name_search.proofs.is_between.Tie as tie
+
+returns : tie.Need-returns
+returns c = not-between _ _
+
+pub is-between-spec : {M : Type 1} → statement M
+is-between-spec = tie.close (tie.spec returns)
