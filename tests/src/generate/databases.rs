@@ -81,7 +81,7 @@ struct Made {
 }
 
 fn database(random: &mut Random, huge_share: u64) -> Made {
-    match random.weighted(&[330, 240, 130, 150, 40, 40, 25, 37, huge_share]) {
+    match random.weighted(&[330, 240, 130, 150, 40, 40, 25, 37, 30, huge_share]) {
         0 => valid(random),
         1 => damaged(random),
         2 => laced(random),
@@ -90,6 +90,7 @@ fn database(random: &mut Random, huge_share: u64) -> Made {
         5 => large_chain(random),
         6 => noise(random),
         7 => edge_fields(random),
+        8 => far(random),
         _ => huge(random),
     }
 }
@@ -659,6 +660,37 @@ pub fn many_flags() -> impl Iterator<Item = Vec<u8>> {
     })
 }
 
+/// A small database before and behind some thousand bytes: more than a search looks at in one go.
+fn far(random: &mut Random) -> Made {
+    let mut made = match random.below(4) {
+        0 => valid(random),
+        1 => damaged(random),
+        2 => laced(random),
+        _ => tangled(random),
+    };
+    let (before, behind) = (random.below(9_000), random.between(6_000, 9_000) as usize);
+    fill_before(&mut made, filling(random, before));
+    made.text.push(b'\n');
+    made.text.extend_from_slice(&filling(random, behind));
+    made
+}
+
+/// Lines, comments or pairs of so many bytes.
+fn filling(random: &mut Random, size: usize) -> Vec<u8> {
+    let unit: &[u8] = random.pick(&[b"x" as &[u8], b"\n", b"z:am:\n", b"y|z:tc=a:\n", b"\\\n"]);
+    let mut filling = b"#".to_vec();
+    filling.extend_from_slice(&unit.repeat(size / unit.len()));
+    filling.truncate(size);
+    filling
+}
+
+fn fill_before(made: &mut Made, mut filling: Vec<u8>) {
+    if let Some(last) = filling.last_mut() {
+        *last = b'\n';
+    }
+    made.text.splice(0..0, filling);
+}
+
 /// A database of 1,048,575 to 1,048,577 bytes: a small one, and filling before or behind it.
 fn huge(random: &mut Random) -> Made {
     // One that is too large costs little, as it isn't searched.
@@ -666,17 +698,11 @@ fn huge(random: &mut Random) -> Made {
     let target = if over { 1_048_577 } else { random.between(1_048_575, 1_048_576) as usize };
     let mut made = if random.chance(70) { valid(random) } else { tangled(random) };
     made.text.push(b'\n');
-    let unit: &[u8] = random.pick(&[b"x" as &[u8], b"\n", b"z:am:\n", b"y|z:tc=a:\n", b"\\\n"]);
-    let mut filling = b"#".to_vec();
-    filling.extend_from_slice(&unit.repeat(target / unit.len()));
-    filling.truncate(target - made.text.len());
+    let filling = filling(random, target - made.text.len());
     if random.chance(50) {
         made.text.extend_from_slice(&filling);
     } else {
-        if let Some(last) = filling.last_mut() {
-            *last = b'\n';
-        }
-        made.text.splice(0..0, filling);
+        fill_before(&mut made, filling);
     }
     made
 }
