@@ -18,6 +18,10 @@ pub const ABSENT: [&str; 12] = [
     "ansi-unknown", "press-nowhere", "concept-absent", "hp26999-missing", "dg-no-such-model",
 ];
 
+/// Names with spaces, as the long ones have, that no database here has either.
+const ABSENT_LONG: [&str; 4] =
+    ["dec model 9 terminal", "no such terminal", "press console, 24 lines", "oven line 12 of 9"];
+
 pub fn groups(large: &Large) -> Vec<Group<'_>> {
     vec![
         Group { title: "Searching a large database", rows: searching(large) },
@@ -31,6 +35,7 @@ pub fn searching(large: &Large) -> Vec<Row<'_>> {
     let database = large.bytes.as_slice();
     vec![
         absent("Show, absent name", database),
+        shows("Show, absent long name", database, &ABSENT_LONG),
         show("Show, last name", database, large.last().usual_name()),
         show("Show, middle name", database, large.middle().usual_name()),
         chain_of_six(database),
@@ -38,7 +43,11 @@ pub fn searching(large: &Large) -> Vec<Row<'_>> {
 }
 
 pub fn absent<'a>(row: &str, database: &'a [u8]) -> Row<'a> {
-    let names = ABSENT.iter().map(|name| name.as_bytes());
+    shows(row, database, &ABSENT)
+}
+
+fn shows<'a>(row: &str, database: &'a [u8], names: &'static [&str]) -> Row<'a> {
+    let names = names.iter().map(|name| name.as_bytes());
     Row {
         name: row.to_string(),
         questions: names.clone().map(|name| read(Reading::Show, database, name, b"")).collect(),

@@ -176,10 +176,10 @@ fn hit_by_blocks(s: &[u8], at: usize, name: &[u8]) -> usize
     let mut i = at;
     while reach < len - i {
         let found = hit_in_block(s, i, name);
-        if is_hit(s, found, name) {
+        if found - i < 48 {
             return found;
         }
-        i = found + 1;
+        i = found;
     }
     first_hit(s, i, len - 2, name)
 }

@@ -5,7 +5,7 @@ use mathlib.Core.Path.{refl}
 use native.Mathlib.Omega.{arith}
 use lib.ListN.{length}
 use Rattle.name_search.specs.Marks.{Passed}
-use Rattle.name_search.proofs.Places.{passed-none, passed-join, passed-one}
+use Rattle.name_search.proofs.Places.{passed-none, passed-join}
 use Rattle.name_search.proofs.hit_by_blocks.Statement.{statement}
 use Rattle.name_search.proofs.hit_by_blocks.Tie as tie
 
@@ -27,28 +27,21 @@ sub-loop c = omega arith
 hit-in-block-requires : tie.Need-hit-in-block-requires Inv-loop μ-loop
 hit-in-block-requires c κs = (omega arith, omega arith)
 
-is-hit-requires : tie.Need-is-hit-requires Inv-loop μ-loop
-is-hit-requires c κs =
-    let p = c .hit-in-block .ensures in
-    omega arith
+sub-if1 : tie.Need-sub-if1 Inv-loop μ-loop
+sub-if1 c =
+    let p = c .hit-in-block .ensures .1 in
+    omega (arith, p .from)
 
 returns : tie.Need-returns Inv-loop μ-loop
-returns c = passed-join (c .before .before .before .before .loop .inv) (c .before .before .hit-in-block .ensures .1)
-
-add-i : tie.Need-add-i Inv-loop μ-loop
-add-i c =
-    let p = c .before .before .hit-in-block .ensures in
-    omega arith
+returns c = passed-join (c .before .before .before .loop .inv) (c .before .hit-in-block .ensures .1)
 
 loop-less : tie.Need-loop-less Inv-loop μ-loop
 loop-less c =
-    let p = c .before .before .hit-in-block .ensures .1 in
-    omega (arith, p .from)
+    let p = c .before .hit-in-block .ensures .1 in
+    omega (arith, p .from, p .inside)
 
 loop-again : tie.Need-loop-again Inv-loop μ-loop
-loop-again c =
-    let p = c .before .before .hit-in-block .ensures in
-    passed-one (passed-join (c .before .before .before .before .loop .inv) (p .1)) (c .before .is-hit .ensures (c .if1 .left)) (omega arith)
+loop-again c = passed-join (c .before .before .before .loop .inv) (c .before .hit-in-block .ensures .1)
 
 sub-first-hit : tie.Need-sub-first-hit Inv-loop μ-loop
 sub-first-hit c = omega arith
@@ -69,9 +62,8 @@ hit-by-blocks-spec =
     loop-holds
     sub-loop
     hit-in-block-requires
-    is-hit-requires
+    sub-if1
     returns
-    add-i
     loop-less
     loop-again
     sub-first-hit
