@@ -109,9 +109,16 @@ fn many_names() -> Vec<Hostile> {
         show("a|a|a|.., asked for b", filled("", "a|", ""), "b"),
         show("a|a|a|.., asked for ab", filled("", "a|", ""), "ab"),
         show("bars only", filled("", "|", "\n"), "b"),
+        show("aba|aba|.., asked for aca", filled("", "aba|", ""), "aca"),
+        show("aba:\\naba:\\n.., asked for aca", filled("", "aba:\n", ""), "aca"),
         show(
             "names that differ in the 64th byte",
             filled("", &(long.clone() + "b|"), ""),
+            &(long.clone() + "a"),
+        ),
+        show(
+            "names that differ in the 63rd byte",
+            filled("", &(long[1..].to_owned() + "ba|"), ""),
             &(long + "a"),
         ),
     ]

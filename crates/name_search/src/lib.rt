@@ -244,11 +244,15 @@ fn hit_in_stretch(s: &[u8], at: usize, n: usize, name: &[u8], list: &mut [u8]) -
     first_hit(s, i, i + 48, name)
 }
 
-// How many blocks to list after `n` of them: twice as many, and at most 128, so that a near hit costs no more than its distance.
-fn more_blocks(n: usize) -> usize
+// How many blocks to list after `n` of them, of which so many places were passed: twice as many and at most 128, or 4 again where there
+// was something to look at. So a near hit costs no more than its distance.
+fn next_count(n: usize, passed: usize) -> usize
     requires { ⌜ n ≤ 128 ⌝ }
     ensures { λ r. ⌜ r ≤ 128 ⌝ }
 {
+    if passed < n * 48 {
+        return 4;
+    }
     if n < 65 {
         return n * 2;
     }
@@ -272,8 +276,8 @@ fn hit_by_stretches(s: &[u8], at: usize, name: &[u8]) -> usize
         if is_hit(s, found, name) {
             return found;
         }
+        n = next_count(n, found - i);
         i = found + 1;
-        n = more_blocks(n);
     }
     hit_by_blocks(s, i, name)
 }

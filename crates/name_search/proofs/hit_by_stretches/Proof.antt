@@ -38,13 +38,18 @@ is-hit-requires c κs =
 returns : tie.Need-returns Inv-loop μ-loop
 returns c = passed-join (c .before .before .before .before .before .before .loop .inv .2) (c .before .before .before .hit-in-stretch .ensures .1)
 
+sub-next-count : tie.Need-sub-next-count Inv-loop μ-loop
+sub-next-count c =
+    let p = c .before .before .before .hit-in-stretch .ensures .1 in
+    omega (arith, p .from)
+
+next-count-requires : tie.Need-next-count-requires Inv-loop μ-loop
+next-count-requires c κs = omega arith
+
 add-i : tie.Need-add-i Inv-loop μ-loop
 add-i c =
-    let p = c .before .before .before .hit-in-stretch .ensures in
+    let p = c .before .before .before .before .hit-in-stretch .ensures in
     omega arith
-
-more-blocks-requires : tie.Need-more-blocks-requires Inv-loop μ-loop
-more-blocks-requires c κs = omega arith
 
 loop-less : tie.Need-loop-less Inv-loop μ-loop
 loop-less c =
@@ -75,8 +80,9 @@ hit-by-stretches-spec =
     hit-in-stretch-requires
     is-hit-requires
     returns
+    sub-next-count
+    next-count-requires
     add-i
-    more-blocks-requires
     loop-less
     loop-again
     hit-by-blocks-requires
