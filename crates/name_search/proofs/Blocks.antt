@@ -1,6 +1,6 @@
 -- Lists of blocks: the laws of `Listed`, and what they say of the places before a block.
 -- Assumes nothing.
-use Prim.Native.Nat.{ℕ, zero, suc, _+_, _*_, _-_, _≤_, _<_}
+use Prim.Native.Nat.{ℕ, zero, suc, _+_, _*_, _-_, _<_}
 use mathlib.Core.Path.{_≡_, refl, _∙_, sym}
 use mathlib.Core.Bool.{Bool, true, false}
 use mathlib.Core.List.{List}
@@ -10,7 +10,7 @@ use borrow.Author.Tests.{eqb-true, eqb-false, ltb-true, ltb-false}
 use lib.Dec.{eqb, ltb}
 use lib.ListN.{length, getD, set}
 use lib.Seq.{getD-set-other}
-use Rattle.name_search.specs.Marks.{Quiet, Each, Startless, Listed, Plain}
+use Rattle.name_search.specs.Marks.{Quiet, Startless, Listed, Plain}
 use Rattle.name_search.proofs.Places.{each-none, each-to, each-join, quiet-startless}
 
 pub listed-none : (s : List ℕ) (a : ℕ) (l : List ℕ) → Listed s a l 0 0

@@ -3,7 +3,7 @@
 use Prim.Native.Nat.{ℕ, zero, suc, _+_, _-_, _≤_, _<_}
 use mathlib.Core.Path.{_≡_, refl, _∙_, ap, sym}
 use mathlib.Core.Bool.{Bool, true, false}
-use mathlib.Core.List.{List, [], _∷_}
+use mathlib.Core.List.{List, []}
 use mathlib.Core.Logic.{_⊎_, inl, inr, ⊎-elim}
 use native.Mathlib.Omega.{arith}
 use borrow.Author.Tests.{eqb-true, eqb-false, ltb-true, ltb-false}
@@ -14,7 +14,7 @@ use Rattle.spec.specs.Lines.{Text, byte, textAt, lineText, laterLines, firstNam
 use Rattle.spec.specs.Lists.{upto, laterPieces, same, among}
 use Rattle.spec.proofs.TextSteps as Laws
 use Rattle.spec.proofs.TextSteps.{rest}
-use Rattle.name_search.specs.Marks.{Separator, Stops, Spelled, Inside, Quiet, Other, Closes, LineOf, Candidate}
+use Rattle.name_search.specs.Marks.{Separator, Stops, Inside, Quiet, Other, Closes, LineOf, Candidate}
 use Rattle.name_search.proofs.LineEnds.{none-behind, next-behind}
 use Rattle.name_search.proofs.Looking.{Pair, Look, over, pair, one, look}
 use Rattle.name_search.proofs.Spelling.{Ending, Stands, Begins, with-pair, with-byte, some-left, begins, ends, first-end, text-done}

@@ -10,9 +10,9 @@ use spec::Found;
 ghost use Prim.Native.Nat.{_+_, _*_, _≤_, _<_};
 ghost use mathlib.Core.Bool.{true, false};
 ghost use mathlib.Core.Path.{_≡_};
-ghost use lib.ListN.{length, getD};
+ghost use lib.ListN.{length};
 ghost use Rattle.spec.specs.Lines.{findLine};
-ghost use Rattle.name_search.specs.Marks.{Separator, Stop, Stops, Inside, Settled, Quiet, Passed, Start, Startless, Listed, Plain, Closes, LineOf, NextCandidate};
+ghost use Rattle.name_search.specs.Marks.{Separator, Stop, Stops, Settled, Quiet, Passed, Start, Startless, Listed, Plain, Closes, LineOf, NextCandidate};
 
 // Whether a name is plain: bytes 36..127 only.
 fn is_plain(name: &[u8]) -> bool

@@ -1,6 +1,6 @@
 -- `name_search::first_hit` meets its contract: each place before the loop's is settled.
 -- Assumes nothing.
-use Prim.Native.Nat.{_+_, _≤_, _-_}
+use Prim.Native.Nat.{_≤_, _-_}
 use native.Mathlib.Omega.{arith}
 use Rattle.name_search.specs.Marks.{Passed}
 use Rattle.name_search.proofs.Places.{each-none, each-one}

@@ -5,7 +5,6 @@ use native.Mathlib.Omega.{arith}
 use borrow.Author.Count.{below-more}
 use lib.ListN.{getD}
 use Rattle.name_search.specs.Marks.{Quiet}
-use Rattle.name_search.proofs.Places.{each-to}
 use Rattle.name_search.proofs.Blocks.{quiet-before, quiet-all}
 use Rattle.name_search.proofs.loud_block.Statement.{statement}
 use Rattle.name_search.proofs.loud_block.Tie as tie
