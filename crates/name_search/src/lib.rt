@@ -1,6 +1,6 @@
 // Finds the line of a terminal in a termcap database, 48 bytes at a time. It passes over all bytes behind which no name can stand; where
-// one can, it looks for a name of the asked length, and compares bytes of a name only if its length fits. Only where the asked name is
-// spelled, or may be cut by a backslash and a newline, is a line looked at by itself.
+// one can, it looks whether a name may end after as many bytes as the asked one has, and compares bytes only there. Only where the asked
+// name is spelled, or may be cut by a backslash and a newline, is a line looked at by itself.
 use lines::Next;
 use lines::is_ignored;
 use lines::is_name;
