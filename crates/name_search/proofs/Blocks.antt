@@ -10,8 +10,8 @@ use borrow.Author.Tests.{eqb-true, eqb-false, ltb-true, ltb-false}
 use lib.Dec.{eqb, ltb}
 use lib.ListN.{length, getD, set}
 use lib.Seq.{getD-set-other}
-use Rattle.name_search.specs.Marks.{Quiet, Startless, Listed, Plain}
-use Rattle.name_search.proofs.Places.{each-none, each-to, each-join, quiet-startless}
+use Rattle.name_search.specs.Marks.{AllSettled, Startless, Listed, Plain}
+use Rattle.name_search.proofs.Places.{each-none, each-to, each-join, settled-startless}
 
 pub listed-none : (s : List ℕ) (a : ℕ) (l : List ℕ) → Listed s a l 0 0
 listed-none s a l = record { few = omega arith; below = λ c h. absurd (omega arith); rising = λ c d g h. absurd (omega arith); all = λ j h. absurd (omega arith) }
@@ -70,22 +70,22 @@ module _ {s : List ℕ} {a : ℕ} {l : List ℕ} {n k : ℕ} (x : Listed s a l n
 
 -- ---- blocks that are settled, one after the other
 
-pub quiet-blocks : (s n : List ℕ) (a k : ℕ) → ((j : ℕ) → j < k → Quiet s n (a + j * 48) (a + j * 48 + 48)) → Quiet s n a (a + k * 48)
-quiet-blocks s n a zero q = each-none _ (omega arith)
-quiet-blocks s n a (suc k) q = each-to (a + suc k * 48) (each-join (a + k * 48) (quiet-blocks s n a k (λ j h. q j (omega arith))) (q k (omega arith))) (omega arith)
+pub settled-blocks : (s n : List ℕ) (a k : ℕ) → ((j : ℕ) → j < k → AllSettled s n (a + j * 48) (a + j * 48 + 48)) → AllSettled s n a (a + k * 48)
+settled-blocks s n a zero q = each-none _ (omega arith)
+settled-blocks s n a (suc k) q = each-to (a + suc k * 48) (each-join (a + k * 48) (settled-blocks s n a k (λ j h. q j (omega arith))) (q k (omega arith))) (omega arith)
 
 module _ (s n : List ℕ) (a : ℕ) (l : List ℕ) (m k : ℕ) (plain : Plain n) (some : 0 < length n) (x : Listed s (a + 2) l m k) where
   settled-block :
-      (c : ℕ) → ((d : ℕ) → d < c → Quiet s n (a + getD l d 0 * 48) (a + getD l d 0 * 48 + 48)) → (j : ℕ) → j < k
-      → ((d : ℕ) → d < m → getD l d 0 ≡ j → d < c) → Quiet s n (a + j * 48) (a + j * 48 + 48)
-  settled-block c q j h before = ⊎-elim (λ w. each-to (a + j * 48 + 48) (quiet-startless s n plain some _ w (omega arith)) (omega arith)) (λ w. listed (w .0) (w .2) (before (w .0) (w .1) (w .2))) (x .all j h)
+      (c : ℕ) → ((d : ℕ) → d < c → AllSettled s n (a + getD l d 0 * 48) (a + getD l d 0 * 48 + 48)) → (j : ℕ) → j < k
+      → ((d : ℕ) → d < m → getD l d 0 ≡ j → d < c) → AllSettled s n (a + j * 48) (a + j * 48 + 48)
+  settled-block c q j h before = ⊎-elim (λ w. each-to (a + j * 48 + 48) (settled-startless s n plain some _ w (omega arith)) (omega arith)) (λ w. listed (w .0) (w .2) (before (w .0) (w .1) (w .2))) (x .all j h)
     where
-      listed : (d : ℕ) → getD l d 0 ≡ j → d < c → Quiet s n (a + j * 48) (a + j * 48 + 48)
+      listed : (d : ℕ) → getD l d 0 ≡ j → d < c → AllSettled s n (a + j * 48) (a + j * 48 + 48)
       listed d e g = rw e at (q d g)
 
   -- before the block at c of the list
-  pub quiet-before : (c : ℕ) → c < m → ((d : ℕ) → d < c → Quiet s n (a + getD l d 0 * 48) (a + getD l d 0 * 48 + 48)) → Quiet s n a (a + getD l c 0 * 48)
-  quiet-before c h q = quiet-blocks s n a (getD l c 0) (λ j g. settled-block c q j (let w = x .below c h in omega arith) (λ d u e. before j g d u e (ltb d c) (eqb d c) refl refl))
+  pub settled-before : (c : ℕ) → c < m → ((d : ℕ) → d < c → AllSettled s n (a + getD l d 0 * 48) (a + getD l d 0 * 48 + 48)) → AllSettled s n a (a + getD l c 0 * 48)
+  settled-before c h q = settled-blocks s n a (getD l c 0) (λ j g. settled-block c q j (let w = x .below c h in omega arith) (λ d u e. before j g d u e (ltb d c) (eqb d c) refl refl))
     where
       before : (j : ℕ) → j < getD l c 0 → (d : ℕ) → d < m → getD l d 0 ≡ j → (y z : Bool) → ltb d c ≡ y → eqb d c ≡ z → d < c
       before j g d u e true z f i = ltb-true d c f
@@ -100,5 +100,5 @@ module _ (s n : List ℕ) (a : ℕ) (l : List ℕ) (m k : ℕ) (plain : Plain n)
           absurd (omega arith)
 
   -- all of them
-  pub quiet-all : ((d : ℕ) → d < m → Quiet s n (a + getD l d 0 * 48) (a + getD l d 0 * 48 + 48)) → Quiet s n a (a + k * 48)
-  quiet-all q = quiet-blocks s n a k (λ j h. settled-block m q j h (λ d u e. u))
+  pub settled-all : ((d : ℕ) → d < m → AllSettled s n (a + getD l d 0 * 48) (a + getD l d 0 * 48 + 48)) → AllSettled s n a (a + k * 48)
+  settled-all q = settled-blocks s n a k (λ j h. settled-block m q j h (λ d u e. u))

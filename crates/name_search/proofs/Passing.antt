@@ -14,7 +14,7 @@ use Rattle.spec.specs.Lines.{Text, byte, textAt, lineText, laterLines, firstNam
 use Rattle.spec.specs.Lists.{upto, laterPieces, same, among}
 use Rattle.spec.proofs.TextSteps as Laws
 use Rattle.spec.proofs.TextSteps.{rest}
-use Rattle.name_search.specs.Marks.{Separator, Stops, Inside, Quiet, Other, Closes, LineOf, Candidate}
+use Rattle.name_search.specs.Marks.{Separator, Stops, Inside, AllSettled, Other, Closes, LineOf, Candidate}
 use Rattle.name_search.proofs.LineEnds.{none-behind, next-behind}
 use Rattle.name_search.proofs.Looking.{Pair, Look, over, pair, one, look}
 use Rattle.name_search.proofs.Spelling.{Ending, Stands, Begins, with-pair, with-byte, some-left, begins, ends, first-end, text-done}
@@ -48,7 +48,7 @@ may-follow s n i p h (with-byte e f x) = inl (i, h, sym e)
 
 -- ---- up to the end of a line at e
 
-module _ {s n : List ℕ} {a b e : ℕ} (quiet : Quiet s n a b) (inside : e ≤ length s) (closes : e < length s → Closes s e) (near : e ≤ b + 2) where
+module _ {s n : List ℕ} {a b e : ℕ} (settled : AllSettled s n a b) (inside : e ≤ length s) (closes : e < length s → Closes s e) (near : e ≤ b + 2) where
   ended : lineText (textAt s e) ≡ []
   ended = go (ltb e (length s)) refl
     where
@@ -87,7 +87,7 @@ module _ {s n : List ℕ} {a b e : ℕ} (quiet : Quiet s n a b) (inside : e ≤ 
           let second : j + 1 + 1 ≡ j + 2 = omega arith in
           let third : j + 1 + 1 + 1 ≡ j + 3 = omega arith in
           let after = may-follow s n i (j + 1 + 1 + 1) some (begins s n i (j + 1 + 1 + 1) some (rw t at x)) in
-          quiet .holds j l (omega arith) .uncut (rw second at (y .1)) (y .0) f (rw third at after)
+          settled .holds j l (omega arith) .uncut (rw second at (y .1)) (y .0) f (rw third at after)
 
       on : j + 1 < e → getD s (j + 1) 0 ≡ getD n i 0 → (getD s (j + 1) 0 ≡ 58 → ⊥) → Stands s n (i + 1) (j + 1 + 1) → Stops s (j + 1 + suc d) × ((k : ℕ) → k < suc d → getD s (j + 1 + k) 0 ≡ getD n (i + k) 0)
       on p c g y =
@@ -138,7 +138,7 @@ module _ {s n : List ℕ} {a b e : ℕ} (quiet : Quiet s n a b) (inside : e ≤ 
           let w = spelled (length n) 0 i (omega arith) (omega arith) (omega arith) (no-colon sep) (all-left s n (i + 1) z) in
           let here : i ≡ i - 2 + 2 = omega arith in
           let next : i + 1 ≡ i - 2 + 3 = omega arith in
-          rw next (quiet .holds (i - 2) (omega arith) (omega arith) .other (rw here at sep) (λ k u. shifted k (w .1 k u)) (rw next at (w .0)))
+          rw next (settled .holds (i - 2) (omega arith) (omega arith) .other (rw here at sep) (λ k u. shifted k (w .1 k u)) (rw next at (w .0)))
         where
           shifted : (k : ℕ) → getD s (i + 1 + k) 0 ≡ getD n (0 + k) 0 → getD s (i - 2 + 3 + k) 0 ≡ getD n k 0
           shifted k x =
@@ -220,7 +220,7 @@ module _ {s n : List ℕ} {a b e : ℕ} (quiet : Quiet s n a b) (inside : e ≤ 
 pub next-line : (s n : List ℕ) (e : ℕ) → e < length s → Closes s e → Candidate s n e (e + 1)
 next-line s n e h x = record { inside = omega arith; starts = (e, refl, omega arith, x); passed = next-behind s n e h x }
 
-module _ {s n : List ℕ} {end b : ℕ} (low : 2 ≤ end) (quiet : Quiet s n (end - 2) b) where
+module _ {s n : List ℕ} {end b : ℕ} (low : 2 ≤ end) (settled : AllSettled s n (end - 2) b) where
   pub passed-line : (r : ℕ) → b + 2 < length s → LineOf s end (b + 3) r → Candidate s n end r
   passed-line r h x = go (x .starts)
     where
@@ -233,8 +233,8 @@ module _ {s n : List ℕ} {end b : ℕ} (low : 2 ≤ end) (quiet : Quiet s n (en
           record {
             inside = omega arith;
             starts = x .starts;
-            passed = rw z (passed quiet (omega arith) (λ y. w .3) (omega arith) end (omega arith) v ∙ next-behind s n f (omega arith) (w .3));
+            passed = rw z (passed settled (omega arith) (λ y. w .3) (omega arith) end (omega arith) v ∙ next-behind s n f (omega arith) (w .3));
           }
 
   pub passed-all : end ≤ length s → length s ≤ b + 2 → find n (laterLines (textAt s end)) ≡ Nothing
-  passed-all h l = passed quiet (omega arith) (λ x. absurd (omega arith)) l end (omega arith) h ∙ none-behind s n
+  passed-all h l = passed settled (omega arith) (λ x. absurd (omega arith)) l end (omega arith) h ∙ none-behind s n

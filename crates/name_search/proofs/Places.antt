@@ -9,7 +9,7 @@ use native.Mathlib.Omega.{arith}
 use borrow.Author.Tests.{eq-eqb, ne-eqb, le-leb, lt-ltb, eqb-true, eqb-false, ltb-true, ltb-false}
 use lib.Dec.{eqb, leb, ltb}
 use lib.ListN.{length, getD}
-use Rattle.name_search.specs.Marks.{Separator, Stop, Stops, Spelled, Inside, Settled, Each, Quiet, Passed, Start, Startless, Plain}
+use Rattle.name_search.specs.Marks.{Separator, Stop, Stops, Spelled, Inside, Settled, Each, AllSettled, Passed, Start, Startless, Plain}
 
 pub or-left : (x y : Bool) → (x || y) ≡ false → x ≡ false
 or-left true y e = e
@@ -71,18 +71,18 @@ module _ {P : ℕ → Type 0} {a : ℕ} where
 
 module _ {s n : List ℕ} {a : ℕ} where
   pub passed-none : (r : ℕ) → r ≡ a → r + 2 ≤ length s → Passed s n a r
-  passed-none r e h = record { from = omega arith; inside = h; quiet = each-none r (omega arith) }
+  passed-none r e h = record { from = omega arith; inside = h; settled = each-none r (omega arith) }
 
   pub passed-join : {i r : ℕ} → Passed s n a i → Passed s n i r → Passed s n a r
   passed-join {i = i} x y =
       let f = x .from in
       let g = y .from in
-      record { from = omega arith; inside = y .inside; quiet = each-join i (x .quiet) (y .quiet) }
+      record { from = omega arith; inside = y .inside; settled = each-join i (x .settled) (y .settled) }
 
   pub passed-one : {i : ℕ} → Passed s n a i → Settled s n i → i + 1 + 2 ≤ length s → Passed s n a (i + 1)
   passed-one x y h =
       let f = x .from in
-      record { from = omega arith; inside = h; quiet = each-one _ (x .quiet) y }
+      record { from = omega arith; inside = h; settled = each-one _ (x .settled) y }
 
 -- ---- a place is settled
 
@@ -109,8 +109,8 @@ module _ (s n : List ℕ) (plain : Plain n) (some : 0 < length n) where
           let same : k + 3 + 0 ≡ k + 3 = omega arith in
           rw same at (y 0 some)
 
-  pub quiet-startless : {a b : ℕ} (c : ℕ) → Startless s c b → c ≡ a + 2 → Quiet s n a (b - 2)
-  quiet-startless {a} {b} c x e = record { holds = λ k l m. settled-start k (x .holds (k + 2) (omega arith) (omega arith)) }
+  pub settled-startless : {a b : ℕ} (c : ℕ) → Startless s c b → c ≡ a + 2 → AllSettled s n a (b - 2)
+  settled-startless {a} {b} c x e = record { holds = λ k l m. settled-start k (x .holds (k + 2) (omega arith) (omega arith)) }
 
 -- where the tests of `any_mark` fail
 pub settled-tests :

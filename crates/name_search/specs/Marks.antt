@@ -46,14 +46,14 @@ pub record Settled (s n : List ℕ) (k : ℕ) : Type 0 where
 pub record Each (P : ℕ → Type 0) (a b : ℕ) : Type 0 where
   pub holds : (k : ℕ) → a ≤ k → k < b → P k
 
-abbrev pub Quiet : List ℕ → List ℕ → ℕ → ℕ → Type 0
-Quiet s n a b = Each (Settled s n) a b
+abbrev pub AllSettled : List ℕ → List ℕ → ℕ → ℕ → Type 0
+AllSettled s n a b = Each (Settled s n) a b
 
--- What the functions that pass over settled places answer: a place with a separator, or the last one but two.
+-- What the functions that pass over settled places answer: a place before which, from a on, each one is settled.
 pub record Passed (s n : List ℕ) (a r : ℕ) : Type 0 where
   pub from : a ≤ r
   pub inside : r + 2 ≤ length s
-  pub quiet : Quiet s n a r
+  pub settled : AllSettled s n a r
 
 -- ---- starts: plain names, of the bytes 36..127 only, stand behind these only, and are cut only there
 

@@ -12,7 +12,7 @@ ghost use mathlib.Core.Bool.{true, false};
 ghost use mathlib.Core.Path.{_≡_};
 ghost use lib.ListN.{length};
 ghost use Rattle.spec.specs.Lines.{findLine};
-ghost use Rattle.name_search.specs.Marks.{Separator, Stop, Stops, Settled, Quiet, Passed, Start, Startless, Listed, Plain, Closes, LineOf, NextCandidate};
+ghost use Rattle.name_search.specs.Marks.{Separator, Stop, Stops, Settled, AllSettled, Passed, Start, Startless, Listed, Plain, Closes, LineOf, NextCandidate};
 
 // Whether a name is plain: bytes 36..127 only.
 fn is_plain(name: &[u8]) -> bool
@@ -83,7 +83,7 @@ fn is_cut(earlier: u8, before: u8, newline: u8) -> bool
 fn any_mark(s: &[u8], at: usize, name: &[u8]) -> bool
     requires { ⌜ 0 < length (now name) ⌝ }
     requires { ⌜ at + 50 + length (now name) < length (now s) ⌝ }
-    ensures { λ r. ⌜ (r ≡ false → Quiet (now (s .entry)) (now (name .entry)) at (at + 48)) ⌝ }
+    ensures { λ r. ⌜ (r ≡ false → AllSettled (now (s .entry)) (now (name .entry)) at (at + 48)) ⌝ }
 {
     let size = name.len();
     let first = name[0];
@@ -205,14 +205,14 @@ fn list_blocks(s: &[u8], at: usize, n: usize, list: &mut [u8]) -> usize
 }
 
 // The first of the `n` blocks from `at` on that may have a hit for a plain name, or `n`; only the listed ones may.
-fn loud_block(s: &[u8], at: usize, n: usize, name: &[u8], list: &[u8], count: usize) -> usize
+fn marked_block(s: &[u8], at: usize, n: usize, name: &[u8], list: &[u8], count: usize) -> usize
     requires { ⌜ 0 < length (now name) ⌝ }
     requires { ⌜ at + n * 48 + 2 + length (now name) < length (now s) ⌝ }
     requires { ⌜ Plain (now name) ⌝ }
     requires { ⌜ n ≤ length (now list) ⌝ }
     requires { ⌜ Listed (now s) (at + 2) (now list) count n ⌝ }
     ensures { λ r. ⌜ r ≤ n ⌝ }
-    ensures { λ r. ⌜ Quiet (now (s .entry)) (now (name .entry)) at (at + r * 48) ⌝ }
+    ensures { λ r. ⌜ AllSettled (now (s .entry)) (now (name .entry)) at (at + r * 48) ⌝ }
 {
     let mut c = 0;
     while c < count {
@@ -236,7 +236,7 @@ fn hit_in_stretch(s: &[u8], at: usize, n: usize, name: &[u8], list: &mut [u8]) -
     ensures { λ r. ⌜ Passed (now (s .entry)) (now (name .entry)) at r ⌝ }
 {
     let count = list_blocks(s, at + 2, n, list);
-    let k = loud_block(s, at, n, name, list, count);
+    let k = marked_block(s, at, n, name, list, count);
     let i = at + k * 48;
     if k == n {
         return i;

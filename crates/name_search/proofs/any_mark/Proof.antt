@@ -4,13 +4,13 @@ use Prim.Native.Nat.{_+_, _≤_, _-_}
 use mathlib.Core.Path.{_≡_}
 use mathlib.Core.Bool.{false, _||_}
 use native.Mathlib.Omega.{arith}
-use Rattle.name_search.specs.Marks.{Quiet}
+use Rattle.name_search.specs.Marks.{AllSettled}
 use Rattle.name_search.proofs.Places.{or-left, or-right, each-none, each-to, each-one, settled-tests}
 use Rattle.name_search.proofs.any_mark.Statement.{statement}
 use Rattle.name_search.proofs.any_mark.Tie as tie
 
 abbrev Inv-loop : tie.InvT-loop
-Inv-loop s at name size first last hit₀ k₀ hit k = (k ≤ 48) × (hit ≡ false → Quiet s name at (at + k))
+Inv-loop s at name size first last hit₀ k₀ hit k = (k ≤ 48) × (hit ≡ false → AllSettled s name at (at + k))
 
 abbrev μ-loop : tie.MeasureT-loop
 μ-loop s at name size first last hit₀ k₀ hit k = 48 - k

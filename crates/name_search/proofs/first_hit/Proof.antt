@@ -14,7 +14,7 @@ abbrev μ-loop : tie.MeasureT-loop
 μ-loop s at stop name i₀ i = stop - i
 
 loop-holds : tie.Need-loop-holds Inv-loop μ-loop
-loop-holds c = (omega arith, record { from = omega arith; inside = omega arith; quiet = each-none _ (omega arith) })
+loop-holds c = (omega arith, record { from = omega arith; inside = omega arith; settled = each-none _ (omega arith) })
 
 is-hit-requires : tie.Need-is-hit-requires Inv-loop μ-loop
 is-hit-requires c κs = omega arith
@@ -29,7 +29,7 @@ loop-less : tie.Need-loop-less Inv-loop μ-loop
 loop-less c = omega arith
 
 loop-again : tie.Need-loop-again Inv-loop μ-loop
-loop-again c = (omega arith, record { from = omega arith; inside = omega arith; quiet = each-one _ (c .before .before .before .loop .inv .1 .quiet) (c .before .is-hit .ensures (c .if1 .left)) })
+loop-again c = (omega arith, record { from = omega arith; inside = omega arith; settled = each-one _ (c .before .before .before .loop .inv .1 .settled) (c .before .is-hit .ensures (c .if1 .left)) })
 
 returns-2 : tie.Need-returns-2 Inv-loop μ-loop
 returns-2 c = c .before .loop .inv

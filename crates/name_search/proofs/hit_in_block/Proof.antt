@@ -21,7 +21,7 @@ add-result : tie.Need-add-result
 add-result c = search needs
 
 returns-2 : tie.Need-returns-2
-returns-2 c = (omega arith, record { from = omega arith; inside = omega arith; quiet = c .before .any-mark .ensures (c .if1 .left) })
+returns-2 c = (omega arith, record { from = omega arith; inside = omega arith; settled = c .before .any-mark .ensures (c .if1 .left) })
 
 pub hit-in-block-spec : {M : Type 1} → statement M
 hit-in-block-spec =

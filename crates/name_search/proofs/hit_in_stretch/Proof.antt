@@ -1,4 +1,4 @@
--- `name_search::hit_in_stretch` meets its contract: the blocks before the loud one are settled, and so are the places before its first hit.
+-- `name_search::hit_in_stretch` meets its contract: the blocks before the marked one are settled, and so are the places before its first hit.
 -- Assumes nothing.
 use native.Mathlib.Omega.{arith}
 use Rattle.name_search.proofs.Places.{passed-join}
@@ -12,8 +12,8 @@ add-list-blocks c = search needs
 list-blocks-requires : tie.Need-list-blocks-requires
 list-blocks-requires c κs = search needs
 
-loud-block-requires : tie.Need-loud-block-requires
-loud-block-requires c κs =
+marked-block-requires : tie.Need-marked-block-requires
+marked-block-requires c κs =
     let p = c .before .before .before .before .before .before .before .before .pre in
     (omega arith, (omega arith, (p .1 .1 .0, (omega arith, c .before .before .before .list-blocks .ensures))))
 
@@ -28,8 +28,8 @@ same-length c = search needs
 
 returns : tie.Need-returns
 returns c =
-    let k = c .before .loud-block in
-    (omega arith, record { from = omega arith; inside = omega arith; quiet = k .ensures .1 })
+    let k = c .before .marked-block in
+    (omega arith, record { from = omega arith; inside = omega arith; settled = k .ensures .1 })
 
 add-first-hit : tie.Need-add-first-hit
 add-first-hit c = search needs
@@ -42,9 +42,9 @@ same-length-2 c = search needs
 
 returns-2 : tie.Need-returns-2
 returns-2 c =
-    let k = c .before .before .loud-block in
+    let k = c .before .before .marked-block in
     let p = c .first-hit .ensures in
-    (omega arith, passed-join (record { from = omega arith; inside = omega arith; quiet = k .ensures .1 }) (p .1))
+    (omega arith, passed-join (record { from = omega arith; inside = omega arith; settled = k .ensures .1 }) (p .1))
 
 pub hit-in-stretch-spec : {M : Type 1} → statement M
 hit-in-stretch-spec =
@@ -52,7 +52,7 @@ hit-in-stretch-spec =
     (tie.spec
     add-list-blocks
     list-blocks-requires
-    loud-block-requires
+    marked-block-requires
     mul-i
     add-i
     same-length

@@ -42,12 +42,12 @@ line-of-requires c κs =
     (omega (arith, p .from), (omega arith, c .before .before .before .before .before .before .before .pre .1 (omega arith)))
 
 returns-4 : tie.Need-returns-4
-returns-4 c = passed-line (omega arith) (c .before .before .next-hit .ensures .quiet) _ (omega arith) (c .line-of .ensures)
+returns-4 c = passed-line (omega arith) (c .before .before .next-hit .ensures .settled) _ (omega arith) (c .line-of .ensures)
 
 returns-5 : tie.Need-returns-5
 returns-5 c =
     let p = c .before .next-hit .ensures in
-    passed-all (omega arith) (p .quiet) (omega arith) (omega (arith, p .inside))
+    passed-all (omega arith) (p .settled) (omega arith) (omega (arith, p .inside))
 
 pub next-candidate-spec : {M : Type 1} → statement M
 next-candidate-spec =

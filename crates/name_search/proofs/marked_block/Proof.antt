@@ -1,16 +1,16 @@
--- `name_search::loud_block` meets its contract: the listed blocks before the loop's are settled.
+-- `name_search::marked_block` meets its contract: the listed blocks before the loop's are settled.
 -- Assumes nothing.
 use Prim.Native.Nat.{ℕ, _+_, _*_, _-_, _≤_, _<_}
 use native.Mathlib.Omega.{arith}
 use borrow.Author.Count.{below-more}
 use lib.ListN.{getD}
-use Rattle.name_search.specs.Marks.{Quiet}
-use Rattle.name_search.proofs.Blocks.{quiet-before, quiet-all}
-use Rattle.name_search.proofs.loud_block.Statement.{statement}
-use Rattle.name_search.proofs.loud_block.Tie as tie
+use Rattle.name_search.specs.Marks.{AllSettled}
+use Rattle.name_search.proofs.Blocks.{settled-before, settled-all}
+use Rattle.name_search.proofs.marked_block.Statement.{statement}
+use Rattle.name_search.proofs.marked_block.Tie as tie
 
 abbrev Inv-loop : tie.InvT-loop
-Inv-loop s at n name list count c₀ c = (c ≤ count) × ((d : ℕ) → d < c → Quiet s name (at + getD list d 0 * 48) (at + getD list d 0 * 48 + 48))
+Inv-loop s at n name list count c₀ c = (c ≤ count) × ((d : ℕ) → d < c → AllSettled s name (at + getD list d 0 * 48) (at + getD list d 0 * 48 + 48))
 
 abbrev μ-loop : tie.MeasureT-loop
 μ-loop s at n name list count c₀ c = count - c
@@ -53,7 +53,7 @@ returns c =
     let l = c .before .before .before .before .loop in
     let x = a .pre .1 .1 .1 .1 in
     let w = x .below (l .c) (omega arith) in
-    (omega arith, quiet-before _ _ (a .args .at) _ _ _ (a .pre .1 .1 .0) (omega arith) x (l .c) (omega arith) (l .inv .1))
+    (omega arith, settled-before _ _ (a .args .at) _ _ _ (a .pre .1 .1 .0) (omega arith) x (l .c) (omega arith) (l .inv .1))
 
 add-c : tie.Need-add-c Inv-loop μ-loop
 add-c c = omega arith
@@ -68,10 +68,10 @@ returns-2 : tie.Need-returns-2 Inv-loop μ-loop
 returns-2 c =
     let a = c .before .before .before .before .before in
     let l = c .before .loop in
-    (omega arith, quiet-all _ _ (a .args .at) _ _ _ (a .pre .1 .1 .0) (omega arith) (a .pre .1 .1 .1 .1) (λ d h. l .inv .1 d (omega arith)))
+    (omega arith, settled-all _ _ (a .args .at) _ _ _ (a .pre .1 .1 .0) (omega arith) (a .pre .1 .1 .1 .1) (λ d h. l .inv .1 d (omega arith)))
 
-pub loud-block-spec : {M : Type 1} → statement M
-loud-block-spec =
+pub marked-block-spec : {M : Type 1} → statement M
+marked-block-spec =
     tie.close
     (tie.spec
     Inv-loop
