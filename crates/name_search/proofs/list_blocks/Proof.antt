@@ -1,13 +1,11 @@
 -- `name_search::list_blocks` meets its contract: the blocks passed are listed.
 -- Assumes nothing.
-use Prim.Native.Nat.{_-_, _≤_}
-use mathlib.Core.Path.{_≡_, _∙_}
-use mathlib.Core.Logic.{⊎-elim}
+use Prim.Native.Nat.{_+_, _-_, _≤_}
+use mathlib.Core.Path.{_≡_}
 use native.Mathlib.Omega.{arith}
-use lib.ListN.{length, length-set}
-use lib.Seq.{getD-set-same}
+use lib.ListN.{length}
 use Rattle.name_search.specs.Marks.{Listed}
-use Rattle.name_search.proofs.Blocks.{listed-none, listed-store, listed-past, listed-more}
+use Rattle.name_search.proofs.Blocks.{listed-none}
 use Rattle.name_search.proofs.list_blocks.Statement.{statement}
 use Rattle.name_search.proofs.list_blocks.Tie as tie
 
@@ -20,27 +18,17 @@ abbrev μ-loop : tie.MeasureT-loop
 loop-holds : tie.Need-loop-holds Inv-loop μ-loop
 loop-holds c = (omega arith, c .before .before .pre .1 .1, listed-none _ _ _)
 
-cast-list : tie.Need-cast-list Inv-loop μ-loop
-cast-list c = omega arith
+sub-loop : tie.Need-sub-loop Inv-loop μ-loop
+sub-loop c = omega arith
 
-slice-write-list : tie.Need-slice-write-list Inv-loop μ-loop
-slice-write-list c =
-    let p = c .before .loop .inv .2 .few in
-    omega (arith, c .before .loop .inv .1)
+note-block-requires : tie.Need-note-block-requires Inv-loop μ-loop
+note-block-requires c κs = (omega arith, (omega arith, (c .before .before .loop .inv .1, c .before .before .loop .inv .2)))
 
-mul-any-start : tie.Need-mul-any-start Inv-loop μ-loop
-mul-any-start c = omega arith
+add-note-block : tie.Need-add-note-block Inv-loop μ-loop
+add-note-block c = omega arith
 
-add-any-start : tie.Need-add-any-start Inv-loop μ-loop
-add-any-start c = omega arith
-
-any-start-requires : tie.Need-any-start-requires Inv-loop μ-loop
-any-start-requires c κs = omega arith
-
-add-count : tie.Need-add-count Inv-loop μ-loop
-add-count c =
-    let p = c .before .before .before .loop .inv .2 .few in
-    omega arith
+note-block-requires-2 : tie.Need-note-block-requires-2 Inv-loop μ-loop
+note-block-requires-2 c κs = (omega arith, (omega arith, (omega (arith, c .before .before .before .before .before .before .loop .inv .1), c .before .before .before .note-block .ensures)))
 
 add-k : tie.Need-add-k Inv-loop μ-loop
 add-k c = omega arith
@@ -50,22 +38,30 @@ loop-less c = omega arith
 
 loop-again : tie.Need-loop-again Inv-loop μ-loop
 loop-again c =
-    let l = c .before .before .before .loop in
-    let few = l .inv .2 .few in
-    let stored = listed-store (l .inv .2) (l .k) in
-    let long = length-set (l .list) (l .count) (l .k) ∙ l .inv .1 in
-    ⊎-elim
-    (λ w. (omega arith, long, rw (w .1) (listed-more stored (getD-set-same (l .list) (l .count) (l .k) 0 (omega (arith, l .inv .1))))))
-    (λ w. (omega arith, long, rw (w .1) (listed-past stored (c .before .any-start .ensures (w .0 .left)))))
-    (c .if1 .came)
+    let two : c .before .before .before .before .before .before .before .before .before .loop .k + 1 + 1 ≡ c .before .before .before .before .before .before .before .before .before .loop .k + 2 = omega arith in
+    (omega arith, omega (arith, c .before .before .before .before .before .before .before .before .before .loop .inv .1), rw two at (c .before .before .note-block2 .ensures))
+
+sub-if1 : tie.Need-sub-if1 Inv-loop μ-loop
+sub-if1 c = omega arith
+
+note-block-requires-3 : tie.Need-note-block-requires-3 Inv-loop μ-loop
+note-block-requires-3 c κs = (omega arith, (omega arith, (c .before .before .before .loop .inv .1, c .before .before .before .loop .inv .2)))
 
 same-length : tie.Need-same-length Inv-loop μ-loop
-same-length c = omega (arith, c .before .loop .inv .1, c .before .before .before .before .pre .1 .1)
+same-length c = omega (arith, c .before .before .before .before .before .before .loop .inv .1, c .before .before .before .before .before .before .before .before .before .pre .1 .1)
 
 returns : tie.Need-returns Inv-loop μ-loop
 returns c =
-    let full : c .before .loop .k ≡ c .before .before .before .before .args .n = omega arith in
-    rw full at (c .before .loop .inv .2)
+    let full : c .before .before .before .before .before .before .loop .k + 1 ≡ c .before .before .before .before .before .before .before .before .before .args .n = omega arith in
+    rw full at (c .before .before .note-block3 .ensures)
+
+same-length-2 : tie.Need-same-length-2 Inv-loop μ-loop
+same-length-2 c = omega (arith, c .before .before .loop .inv .1, c .before .before .before .before .before .pre .1 .1)
+
+returns-2 : tie.Need-returns-2 Inv-loop μ-loop
+returns-2 c =
+    let full : c .before .before .loop .k ≡ c .before .before .before .before .before .args .n = omega arith in
+    rw full at (c .before .before .loop .inv .2)
 
 pub list-blocks-spec : {M : Type 1} → statement M
 list-blocks-spec =
@@ -74,14 +70,16 @@ list-blocks-spec =
     Inv-loop
     μ-loop
     loop-holds
-    cast-list
-    slice-write-list
-    mul-any-start
-    add-any-start
-    any-start-requires
-    add-count
+    sub-loop
+    note-block-requires
+    add-note-block
+    note-block-requires-2
     add-k
     loop-less
     loop-again
+    sub-if1
+    note-block-requires-3
     same-length
-    returns)
+    returns
+    same-length-2
+    returns-2)
