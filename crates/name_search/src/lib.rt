@@ -187,9 +187,9 @@ fn hit_by_blocks(s: &[u8], at: usize, name: &[u8]) -> usize
 // Lists the block `k`, of those from `at` on, if it has a start, behind the `count` listed ones; answers how many there are then. No
 // branch is left in it: which blocks have a start cannot be foreseen, so a branch would often be guessed wrongly.
 fn note_block(s: &[u8], at: usize, k: usize, list: &mut [u8], count: usize) -> usize
-    requires { ⌜ k < 128 ⌝ }
+    requires { ⌜ k < 256 ⌝ }
     requires { ⌜ at + k * 48 + 48 < length (now s) ⌝ }
-    requires { ⌜ length (now list) ≡ 128 ⌝ }
+    requires { ⌜ length (now list) ≡ 256 ⌝ }
     requires { ⌜ Listed (now s) at (now list) count k ⌝ }
     ensures { λ r. ⌜ Listed (now (s .entry)) at (now (list .exit)) r (k + 1) ⌝ }
 {
@@ -203,9 +203,9 @@ fn note_block(s: &[u8], at: usize, k: usize, list: &mut [u8], count: usize) -> u
 // Lists the blocks with a start, of the `n` from `at` on, and answers how many there are. Two at a time, since a turn of the loop costs
 // about as much as a comparison of 16 bytes.
 fn list_blocks(s: &[u8], at: usize, n: usize, list: &mut [u8]) -> usize
-    requires { ⌜ n ≤ 128 ⌝ }
+    requires { ⌜ n ≤ 256 ⌝ }
     requires { ⌜ at + n * 48 < length (now s) ⌝ }
-    requires { ⌜ length (now list) ≡ 128 ⌝ }
+    requires { ⌜ length (now list) ≡ 256 ⌝ }
     ensures { λ r. ⌜ Listed (now (s .entry)) at (now (list .exit)) r n ⌝ }
 {
     let mut count = 0;
@@ -247,8 +247,8 @@ fn hit_in_stretch(s: &[u8], at: usize, n: usize, name: &[u8], list: &mut [u8]) -
     requires { ⌜ 0 < length (now name) ⌝ }
     requires { ⌜ at + n * 48 + 2 + length (now name) < length (now s) ⌝ }
     requires { ⌜ Plain (now name) ⌝ }
-    requires { ⌜ n ≤ 128 ⌝ }
-    requires { ⌜ length (now list) ≡ 128 ⌝ }
+    requires { ⌜ n ≤ 256 ⌝ }
+    requires { ⌜ length (now list) ≡ 256 ⌝ }
     ensures { λ r. ⌜ r ≤ at + n * 48 ⌝ }
     ensures { λ r. ⌜ Passed (now (s .entry)) (now (name .entry)) at r ⌝ }
 {
@@ -261,22 +261,34 @@ fn hit_in_stretch(s: &[u8], at: usize, n: usize, name: &[u8], list: &mut [u8]) -
     first_hit(s, i, i + 48, name)
 }
 
-// How many blocks to list after `n` of them, of which so many places were passed: twice as many and at most 128, or 4 again where there
-// was something to look at. So a near hit costs no more than its distance.
-fn next_count(n: usize, passed: usize) -> usize
-    requires { ⌜ n ≤ 128 ⌝ }
-    ensures { λ r. ⌜ r ≤ 128 ⌝ }
+// How many blocks to list next: `n`, or fewer where only one block and `room` bytes are left.
+fn fitting(n: usize, room: usize) -> usize
+    requires { ⌜ 0 < n ⌝ }
+    ensures { λ r. ⌜ 0 < r ⌝ }
+    ensures { λ r. ⌜ r ≤ n ⌝ }
+    ensures { λ r. ⌜ r * 48 ≤ room + 48 ⌝ }
 {
-    if passed < n * 48 {
-        return 4;
+    let most = room / 48 + 1;
+    if n < most {
+        return n;
     }
-    if n < 65 {
+    most
+}
+
+// How many blocks to list after `n` of them without a hit: twice as many, and at most 256. So a near hit costs no more than its distance.
+fn next_count(n: usize) -> usize
+    requires { ⌜ 0 < n ⌝ }
+    requires { ⌜ n ≤ 256 ⌝ }
+    ensures { λ r. ⌜ 0 < r ⌝ }
+    ensures { λ r. ⌜ r ≤ 256 ⌝ }
+{
+    if n < 129 {
         return n * 2;
     }
     n
 }
 
-// The first hit from `at` on, or the last place but two: up to 128 blocks at a time.
+// The first hit from `at` on, or the last place but two: up to 256 blocks at a time, and 4 again where there was something to look at.
 fn hit_by_stretches(s: &[u8], at: usize, name: &[u8]) -> usize
     requires { ⌜ 0 < length (now name) ⌝ }
     requires { ⌜ at + 2 ≤ length (now s) ⌝ }
@@ -284,19 +296,25 @@ fn hit_by_stretches(s: &[u8], at: usize, name: &[u8]) -> usize
     ensures { λ r. ⌜ Passed (now (s .entry)) (now (name .entry)) at r ⌝ }
 {
     let len = s.len();
-    let reach = name.len() + 6146;
-    let mut list = [0u8; 128];
+    let reach = name.len() + 51;
+    let mut list = [0u8; 256];
     let mut n = 4;
     let mut i = at;
-    while reach < len - i {
-        let found = hit_in_stretch(s, i, n, name, &mut list);
-        if is_hit(s, found, name) {
-            return found;
+    while reach <= len - i {
+        let m = fitting(n, len - i - reach);
+        let found = hit_in_stretch(s, i, m, name, &mut list);
+        if found - i < m * 48 {
+            if is_hit(s, found, name) {
+                return found;
+            }
+            n = 4;
+            i = found + 1;
+        } else {
+            n = next_count(n);
+            i = found;
         }
-        n = next_count(n, found - i);
-        i = found + 1;
     }
-    hit_by_blocks(s, i, name)
+    first_hit(s, i, len - 2, name)
 }
 
 // The first hit from `at` on, or the last place but two.

@@ -1,6 +1,6 @@
 -- `name_search::hit_by_stretches` meets its contract: each place before the loop's is settled.
 -- Assumes nothing.
-use Prim.Native.Nat.{_-_, _≤_}
+use Prim.Native.Nat.{_-_, _≤_, _<_}
 use mathlib.Core.Path.{_≡_, refl}
 use native.Mathlib.Omega.{arith}
 use lib.ListN.{length}
@@ -10,7 +10,7 @@ use Rattle.name_search.proofs.hit_by_stretches.Statement.{statement}
 use Rattle.name_search.proofs.hit_by_stretches.Tie as tie
 
 abbrev Inv-loop : tie.InvT-loop
-Inv-loop s at name len reach list₀ n₀ i₀ list n i = (length list ≡ 128) × (n ≤ 128) × Passed s name at i
+Inv-loop s at name len reach list₀ n₀ i₀ list n i = (length list ≡ 256) × (0 < n) × (n ≤ 256) × Passed s name at i
 
 abbrev μ-loop : tie.MeasureT-loop
 μ-loop s at name len reach list₀ n₀ i₀ list n i = length s - i
@@ -19,53 +19,80 @@ add-reach : tie.Need-add-reach Inv-loop μ-loop
 add-reach c = omega arith
 
 loop-holds : tie.Need-loop-holds Inv-loop μ-loop
-loop-holds c = (refl, omega arith, passed-none _ refl (omega arith))
+loop-holds c = (refl, omega arith, omega arith, passed-none _ refl (omega arith))
 
 sub-loop : tie.Need-sub-loop Inv-loop μ-loop
 sub-loop c = omega arith
+
+sub-fitting : tie.Need-sub-fitting Inv-loop μ-loop
+sub-fitting c = omega arith
+
+sub-fitting-2 : tie.Need-sub-fitting-2 Inv-loop μ-loop
+sub-fitting-2 c = omega arith
+
+fitting-requires : tie.Need-fitting-requires Inv-loop μ-loop
+fitting-requires c κs = omega arith
 
 slice-aggregate-hit-in-stretch : tie.Need-slice-aggregate-hit-in-stretch Inv-loop μ-loop
 slice-aggregate-hit-in-stretch c = omega arith
 
 hit-in-stretch-requires : tie.Need-hit-in-stretch-requires Inv-loop μ-loop
-hit-in-stretch-requires c κs = (omega arith, (omega arith, (c .before .before .before .before .before .pre .1 .1, (omega arith, omega (arith, c .before .before .loop .inv .0)))))
+hit-in-stretch-requires c κs =
+    let f = c .before .fitting .ensures in
+    (omega arith, (omega arith, (c .before .before .before .before .before .before .pre .1 .1, (omega arith, omega (arith, c .before .before .before .loop .inv .0)))))
+
+sub-if1 : tie.Need-sub-if1 Inv-loop μ-loop
+sub-if1 c = omega (arith, c .before .hit-in-stretch .ensures .1 .from)
+
+mul-if1 : tie.Need-mul-if1 Inv-loop μ-loop
+mul-if1 c = omega (arith, c .before .before .before .fitting .ensures)
 
 is-hit-requires : tie.Need-is-hit-requires Inv-loop μ-loop
 is-hit-requires c κs =
-    let p = c .before .hit-in-stretch .ensures in
+    let f = c .before .before .before .before .fitting .ensures in
+    let p = c .before .before .hit-in-stretch .ensures in
     omega arith
 
 returns : tie.Need-returns Inv-loop μ-loop
-returns c = passed-join (c .before .before .before .before .before .before .loop .inv .2) (c .before .before .before .hit-in-stretch .ensures .1)
-
-sub-next-count : tie.Need-sub-next-count Inv-loop μ-loop
-sub-next-count c =
-    let p = c .before .before .before .hit-in-stretch .ensures .1 in
-    omega (arith, p .from)
-
-next-count-requires : tie.Need-next-count-requires Inv-loop μ-loop
-next-count-requires c κs = omega arith
+returns c = passed-join (c .before .before .before .before .before .before .before .before .loop .inv .3) (c .before .before .before .before .hit-in-stretch .ensures .1)
 
 add-i : tie.Need-add-i Inv-loop μ-loop
 add-i c =
+    let f = c .before .before .before .before .before .before .fitting .ensures in
     let p = c .before .before .before .before .hit-in-stretch .ensures in
     omega arith
 
 loop-less : tie.Need-loop-less Inv-loop μ-loop
-loop-less c =
-    let p = c .before .before .before .before .hit-in-stretch .ensures .1 in
-    omega (arith, p .from)
+loop-less c = omega (arith, c .before .before .before .before .hit-in-stretch .ensures .1 .from)
 
 loop-again : tie.Need-loop-again Inv-loop μ-loop
 loop-again c =
+    let f = c .before .before .before .before .before .before .fitting .ensures in
     let p = c .before .before .before .before .hit-in-stretch .ensures in
-    (omega arith, omega arith, passed-one (passed-join (c .before .before .before .before .before .before .before .loop .inv .2) (p .1)) (c .before .before .is-hit .ensures (c .before .if1 .left)) (omega arith))
+    (omega (arith, c .before .before .before .before .before .before .before .before .loop .inv .0), omega arith, omega arith, passed-one (passed-join (c .before .before .before .before .before .before .before .before .loop .inv .3) (p .1)) (c .before .is-hit .ensures (c .if2 .left)) (omega arith))
 
-hit-by-blocks-requires : tie.Need-hit-by-blocks-requires Inv-loop μ-loop
-hit-by-blocks-requires c κs = (omega arith, omega arith)
+next-count-requires : tie.Need-next-count-requires Inv-loop μ-loop
+next-count-requires c κs = omega arith
+
+loop-less-2 : tie.Need-loop-less-2 Inv-loop μ-loop
+loop-less-2 c =
+    let f = c .before .before .before .before .before .fitting .ensures in
+    let p = c .before .before .before .hit-in-stretch .ensures in
+    omega arith
+
+loop-again-2 : tie.Need-loop-again-2 Inv-loop μ-loop
+loop-again-2 c =
+    let p = c .before .before .before .hit-in-stretch .ensures in
+    (omega (arith, c .before .before .before .before .before .before .before .loop .inv .0), omega arith, omega arith, passed-join (c .before .before .before .before .before .before .before .loop .inv .3) (p .1))
+
+sub-first-hit : tie.Need-sub-first-hit Inv-loop μ-loop
+sub-first-hit c = omega arith
+
+first-hit-requires : tie.Need-first-hit-requires Inv-loop μ-loop
+first-hit-requires c κs = (omega arith, omega arith)
 
 returns-2 : tie.Need-returns-2 Inv-loop μ-loop
-returns-2 c = passed-join (c .before .before .loop .inv .2) (c .hit-by-blocks .ensures)
+returns-2 c = passed-join (c .before .before .loop .inv .3) (c .first-hit .ensures .1)
 
 pub hit-by-stretches-spec : {M : Type 1} → statement M
 hit-by-stretches-spec =
@@ -76,14 +103,21 @@ hit-by-stretches-spec =
     add-reach
     loop-holds
     sub-loop
+    sub-fitting
+    sub-fitting-2
+    fitting-requires
     slice-aggregate-hit-in-stretch
     hit-in-stretch-requires
+    sub-if1
+    mul-if1
     is-hit-requires
     returns
-    sub-next-count
-    next-count-requires
     add-i
     loop-less
     loop-again
-    hit-by-blocks-requires
+    next-count-requires
+    loop-less-2
+    loop-again-2
+    sub-first-hit
+    first-hit-requires
     returns-2)
