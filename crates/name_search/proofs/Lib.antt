@@ -1,6 +1,4 @@
-mod Places
 mod Looking
 mod LineEnds
 mod Spelling
 mod Passing
-mod Blocks

@@ -12,7 +12,7 @@ use Rattle.spec.specs.declared.Found.the-variants.{Nothing}
 use Rattle.spec.specs.Lines.{byte, textAt, laterLines, linesFrom, find, extent}
 use Rattle.spec.proofs.TextSteps as Laws
 use Rattle.spec.proofs.Extents.{extent-end, extent-newline, extent-on}
-use Rattle.name_search.specs.Marks.{Closes}
+use Rattle.name_search.specs.Candidates.{Closes}
 use Rattle.name_search.proofs.Looking.{Pair, Look, over, pair, one, look}
 
 -- A line starts at the place i: no pair has its newline there.

@@ -13,11 +13,8 @@ use Rattle.spec.specs.Lines.{Text, end, byte, textAt, lineText, firstName}
 use Rattle.spec.specs.Lists.{upto, same}
 use Rattle.spec.proofs.TextSteps as Laws
 use Rattle.spec.proofs.TextSteps.{rest}
+use Rattle.name_scan.specs.Marks.{Ending}
 use Rattle.name_search.proofs.Looking.{Pair, Look, over, pair, one, look}
-
--- A byte that ends a name.
-abbrev pub Ending : ℕ → Type 0
-Ending b = (b ≡ 10) ⊎ ((b ≡ 58) ⊎ (b ≡ 124))
 
 pub is-ending : (b : ℕ) → Ending b ⊎ (Ending b → ⊥)
 is-ending b = go (eqb b 10) (eqb b 58) (eqb b 124) refl refl refl
@@ -43,7 +40,7 @@ module _ (s n : List ℕ) (i p : ℕ) where
 
   pub data Begins : Type 0 where
     with-pair : p + 1 < length s → Pair s p → textAt s p ≡ textAt s (p + 1 + 1) → Begins
-    with-byte : getD s p 0 ≡ getD n i 0 → (getD s p 0 ≡ 58 → ⊥) → same (rest n (i + 1)) (firstName (lineText (textAt s (p + 1)))) ≡ true → Begins
+    with-byte : getD s p 0 ≡ getD n i 0 → (Ending (getD s p 0) → ⊥) → same (rest n (i + 1)) (firstName (lineText (textAt s (p + 1)))) ≡ true → Begins
 
   -- something is left, so the place is not at the end of a name
   pub some-left : i < length n → Stands → firstName (lineText (textAt s p)) ≡ [] → ⊥
@@ -60,7 +57,7 @@ module _ (s n : List ℕ) (i p : ℕ) where
       at-byte t (inr f) true e =
           let on = ap (λ (q : Text). firstName (lineText q)) t ∙ Laws.name-on _ _ _ f in
           let z = eqb-true _ _ e in
-          with-byte (sym z) (λ w. f (inr (inl w))) (sym (Laws.same-next n i _ _ h z) ∙ rw on at x)
+          with-byte (sym z) f (sym (Laws.same-next n i _ _ h z) ∙ rw on at x)
       at-byte t (inr f) false e =
           let on = ap (λ (q : Text). firstName (lineText q)) t ∙ Laws.name-on _ _ _ f in
           absurd (true≢false (sym (rw on at x) ∙ Laws.same-differs n i _ _ h (eqb-false _ _ e)))

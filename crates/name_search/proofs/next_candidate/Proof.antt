@@ -31,23 +31,29 @@ next-hit-requires : tie.Need-next-hit-requires
 next-hit-requires c κs = search needs
 
 sub-if4 : tie.Need-sub-if4
-sub-if4 c = search needs
+sub-if4 c =
+    let p = c .next-hit .ensures (omega arith) (omega arith) in
+    omega (arith, p .inside)
 
 add-line-of : tie.Need-add-line-of
-add-line-of c = search needs
+add-line-of c =
+    let p = c .before .next-hit .ensures (omega arith) (omega arith) in
+    omega (arith, p .inside)
 
 line-of-requires : tie.Need-line-of-requires
 line-of-requires c κs =
-    let p = c .before .next-hit .ensures in
+    let p = c .before .next-hit .ensures (omega arith) (omega arith) in
     (omega (arith, p .from), (omega arith, c .before .before .before .before .before .before .before .pre .1 (omega arith)))
 
 returns-4 : tie.Need-returns-4
-returns-4 c = passed-line (omega arith) (c .before .before .next-hit .ensures .settled) _ (omega arith) (c .line-of .ensures)
+returns-4 c =
+    let p = c .before .before .next-hit .ensures (omega arith) (omega arith) in
+    passed-line (omega arith) (c .before .before .before .before .before .before .before .before .pre .1 (omega arith)) (p .settled) _ (omega arith) (c .line-of .ensures)
 
 returns-5 : tie.Need-returns-5
 returns-5 c =
-    let p = c .before .next-hit .ensures in
-    passed-all (omega arith) (p .settled) (omega arith) (omega (arith, p .inside))
+    let p = c .before .next-hit .ensures (omega arith) (omega arith) in
+    passed-all (omega arith) (c .before .before .before .before .before .before .before .pre .1 (omega arith)) (p .settled) (omega arith) (omega (arith, p .inside))
 
 pub next-candidate-spec : {M : Type 1} → statement M
 next-candidate-spec =

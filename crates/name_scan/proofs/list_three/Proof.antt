@@ -1,0 +1,87 @@
+-- `name_scan::list_three` meets its contract: each of the three is listed, or settled.
+-- Assumes nothing.
+use Prim.Native.Nat.{_+_, _*_}
+use borrow.Author.Needs.{needs}
+use mathlib.Core.Path.{_≡_, refl}
+use native.Mathlib.Omega.{arith}
+use Rattle.name_scan.proofs.Blocks.{noted, counted-most}
+use Rattle.name_scan.proofs.Places.{each-in}
+use Rattle.name_scan.proofs.list_three.Statement.{statement}
+use Rattle.name_scan.proofs.list_three.Tie as tie
+
+mul-i : tie.Need-mul-i
+mul-i c = search needs
+
+add-i : tie.Need-add-i
+add-i c = search needs
+
+any-fit-requires : tie.Need-any-fit-requires
+any-fit-requires c κs = search needs
+
+add-any-fit : tie.Need-add-any-fit
+add-any-fit c = search needs
+
+any-fit-requires-2 : tie.Need-any-fit-requires-2
+any-fit-requires-2 c κs = search needs
+
+add-any-fit-2 : tie.Need-add-any-fit-2
+add-any-fit-2 c = search needs
+
+any-fit-requires-3 : tie.Need-any-fit-requires-3
+any-fit-requires-3 c κs = search needs
+
+mul-k : tie.Need-mul-k
+mul-k c = search needs
+
+note-requires : tie.Need-note-requires
+note-requires c κs = search needs
+
+add-note : tie.Need-add-note
+add-note c = search needs
+
+note-requires-2 : tie.Need-note-requires-2
+note-requires-2 c κs =
+    let few = c .before .before .before .before .before .before .before .before .before .before .before .pre .1 .1 .1 .few in
+    (omega arith, omega (arith, c .before .before .before .before .before .before .before .before .before .before .before .pre .1 .1 .0, c .before .before .before .note .ensures .0, counted-most (c .before .before .before .before .before .before .before .any-fit .result) (c .before .before .before .before .before .before .before .before .before .before .before .args .count)))
+
+add-note-2 : tie.Need-add-note-2
+add-note-2 c = search needs
+
+note-requires-3 : tie.Need-note-requires-3
+note-requires-3 c κs =
+    let few = c .before .before .before .before .before .before .before .before .before .before .before .before .before .before .before .pre .1 .1 .1 .few in
+    (omega arith, omega (arith, c .before .before .before .before .before .before .before .before .before .before .before .before .before .before .before .pre .1 .1 .0, c .before .before .before .before .before .before .before .note .ensures .0, c .before .before .before .note2 .ensures .0, counted-most (c .before .before .before .before .before .before .before .before .before .before .before .any-fit .result) (c .before .before .before .before .before .before .before .before .before .before .before .before .before .before .before .args .count), counted-most (c .before .before .before .before .before .before .before .before .before .before .any-fit2 .result) (c .before .before .before .before .before .before .before .note .result)))
+
+same-length : tie.Need-same-length
+same-length c = search needs
+
+returns : tie.Need-returns
+returns c =
+    let start = c .before .before .before .before .before .before .before .before .before .before .before .before .before .before .before .before .before .before in
+    let l = start .pre .1 .1 .0 in
+    let x = start .pre .1 .1 .1 in
+    let one = noted _ x (let few = x .few in omega arith) (λ e. each-in (c .before .before .before .before .before .before .before .before .before .before .before .before .before .before .any-fit .ensures e) (omega arith) (omega arith)) (c .before .before .before .before .before .before .before .before .before .before .note .ensures .0) (c .before .before .before .before .before .before .before .before .before .before .note .ensures .1) refl in
+    let two = noted _ one (let few = one .few in omega arith) (λ e. each-in (c .before .before .before .before .before .before .before .before .before .before .before .before .before .any-fit2 .ensures e) (omega arith) (omega arith)) (c .before .before .before .before .before .before .note2 .ensures .0) (c .before .before .before .before .before .before .note2 .ensures .1) refl in
+    let three = noted _ two (let few = two .few in omega arith) (λ e. each-in (c .before .before .before .before .before .before .before .before .before .before .before .before .any-fit3 .ensures e) (omega arith) (omega arith)) (c .before .before .note3 .ensures .0) (c .before .before .note3 .ensures .1) (omega arith) in
+    let all : start .args .block * 3 + 1 + 1 + 1 ≡ start .args .block * 3 + 3 = omega arith in
+    rw all at three
+
+pub list-three-spec : {M : Type 1} → statement M
+list-three-spec =
+    tie.close
+    (tie.spec
+    mul-i
+    add-i
+    any-fit-requires
+    add-any-fit
+    any-fit-requires-2
+    add-any-fit-2
+    any-fit-requires-3
+    mul-k
+    note-requires
+    add-note
+    note-requires-2
+    add-note-2
+    note-requires-3
+    same-length
+    returns)
