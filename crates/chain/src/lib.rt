@@ -1,7 +1,7 @@
 // The walk from a name along its links.
-use fields::Judged;
-use fields::copy_field;
-use fields::judge_line;
+use descriptions::Judged;
+use descriptions::judge_line;
+use field_bounds::copy_field;
 use name_search::find_line;
 use spec::Found;
 use spec::Refusal;
@@ -11,7 +11,7 @@ ghost use lib.ListN.{length, set};
 ghost use Rattle.spec.specs.Lines.{findLine};
 ghost use Rattle.spec.specs.Chain.{visited};
 ghost use Rattle.chain.specs.Answers.{placesOf, Walked};
-ghost use Rattle.fields.specs.Answers.{fieldAt};
+ghost use Rattle.field_bounds.specs.Answers.{fieldAt};
 
 // The places where the descriptions of a chain start, in order: the first `count` of `places`.
 pub struct Chain {

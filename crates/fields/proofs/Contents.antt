@@ -14,8 +14,8 @@ use Rattle.spec.specs.Lines.{blank}
 use Rattle.spec.specs.Refusals.{goodName, idByte, isTc, idBytes}
 use Rattle.spec.specs.Fields.{malformed, ignored, link, contentReading, linkReading, namedReading, reading}
 use Rattle.spec.proofs.Tests.{both-false, clash}
-use Rattle.fields.specs.Answers.{fieldAt, Reads}
-use Rattle.fields.specs.Readings.{ReadAs, starts, otherReading, nameReading}
+use Rattle.field_bounds.specs.Answers.{fieldAt}
+use Rattle.fields.specs.Readings.{ReadAs, Reads, starts, otherReading, nameReading}
 use Rattle.fields.specs.declared.FieldRead.{FieldRead}
 use Rattle.fields.specs.declared.FieldRead.the-variants.{Malformed, Ignored, Link, Cancel, Flag, Number, String}
 use Rattle.fields.proofs.Names.{id-outside, id-first, blank-next, blank-stops}

@@ -14,7 +14,7 @@ use Rattle.spec.specs.Lines.{blank}
 use Rattle.spec.specs.Refusals.{nameByte, nameBytes, goodName, idByte, isTc, idBytes}
 use Rattle.spec.proofs.FieldSteps.{outside}
 use Rattle.spec.proofs.Tests.{both-false}
-use Rattle.fields.specs.Answers.{fieldAt}
+use Rattle.field_bounds.specs.Answers.{fieldAt}
 
 -- ---- one byte
 

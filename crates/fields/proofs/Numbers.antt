@@ -15,7 +15,7 @@ use Rattle.spec.specs.Digits.{areDigits, valueFrom}
 use Rattle.spec.specs.Fields.{numberBase, numberValue, goodNumber}
 use Rattle.spec.proofs.DigitBytes.{digit-is, digit-not}
 use Rattle.spec.proofs.Tests.{both-false}
-use Rattle.fields.specs.Answers.{fieldAt}
+use Rattle.field_bounds.specs.Answers.{fieldAt}
 
 -- "read as decimal"
 decimal : (l : List ℕ) → numberBase l ≡ 10

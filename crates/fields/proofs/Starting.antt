@@ -10,7 +10,7 @@ use borrow.Author.Tests.{eq-eqb, ne-eqb}
 use lib.ListN.{length, take, getD}
 use lib.Seq.{take-suc, take-all}
 use Rattle.spec.proofs.TextSteps.{rest, drop-next}
-use Rattle.fields.specs.Answers.{fieldAt}
+use Rattle.field_bounds.specs.Answers.{fieldAt}
 use Rattle.fields.specs.Readings.{starts}
 
 -- The first `k` bytes of the start were met up to the place `i`.

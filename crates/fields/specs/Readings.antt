@@ -8,8 +8,8 @@ use lib.ListN.{length}
 use Rattle.spec.specs.Choice.{pick, both}
 use Rattle.spec.specs.Refusals.{idBytes}
 use Rattle.spec.specs.Strings.{good, plain, decode}
-use Rattle.spec.specs.Fields.{goodNumber, numberValue, Reading, malformed, ignored, link, capability, cancel, flag, number, string, contentReading, namedReading}
-use Rattle.fields.specs.Answers.{fieldAt}
+use Rattle.spec.specs.Fields.{goodNumber, numberValue, Reading, malformed, ignored, link, capability, cancel, flag, number, string, contentReading, namedReading, reading}
+use Rattle.field_bounds.specs.Answers.{fieldAt}
 use Rattle.fields.specs.declared.FieldRead.{FieldRead}
 use Rattle.fields.specs.declared.FieldRead.the-variants.{Malformed, Ignored, Link, Cancel, Flag, Number, String}
 use Rattle.fields.specs.declared.AfterStart.{AfterStart}
@@ -53,3 +53,15 @@ otherReading (a ∷ b ∷ l) = pick (idBytes a b) (contentReading a b l) malform
 unfoldable pub nameReading : List ℕ → Reading
 nameReading [] = malformed
 nameReading (a ∷ l) = namedReading a l
+
+-- `read_field`: what the field at a place is read as. A link has the place of its name; a string the place of its text, and the count of
+-- its decoded bytes.
+abbrev pub Reads : List ℕ → ℕ → FieldRead → Type 0
+Reads s at Malformed = reading (fieldAt s at) ≡ malformed
+Reads s at Ignored = reading (fieldAt s at) ≡ ignored
+Reads s at (Link name) = (reading (fieldAt s at) ≡ link (fieldAt s name)) × (name ≤ length s)
+Reads s at (Cancel a b) = reading (fieldAt s at) ≡ capability a b cancel
+Reads s at (Flag a b) = reading (fieldAt s at) ≡ capability a b flag
+Reads s at (Number a b v) = reading (fieldAt s at) ≡ capability a b (number v)
+Reads s at (String a b text n) =
+    (l : List ℕ) × (reading (fieldAt s at) ≡ capability a b (string l)) × (decode plain (fieldAt s text) ≡ good l) × (length l ≡ n)

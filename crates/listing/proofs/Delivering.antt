@@ -18,7 +18,7 @@ use Rattle.spec.proofs.Buffers.{put-fits, put-full}
 use Rattle.spec.proofs.Stores.{stored-front, stored-append}
 use Rattle.spec.proofs.Winning.{winning-wins}
 use Rattle.spec.proofs.Records.{records-length}
-use Rattle.fields.specs.Answers.{fieldAt}
+use Rattle.field_bounds.specs.Answers.{fieldAt}
 use Rattle.listing.specs.Answers.{written, WroteWinning, Put}
 use Rattle.listing.specs.declared.Form.the-variants.{Records, Texts}
 use Rattle.listing.proofs.Passing.{written-records, written-texts}

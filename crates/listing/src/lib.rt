@@ -2,12 +2,12 @@
 // winning ones. A store past a buffer's end is no store, so the pass measures in a buffer of one byte.
 use chain::Chain;
 use chain::Ended;
-use fields::AfterNames;
+use field_bounds::AfterNames;
+use field_bounds::Piece;
+use field_bounds::after_names;
+use field_bounds::copy_field;
+use field_bounds::next_piece;
 use fields::FieldRead;
-use fields::Piece;
-use fields::after_names;
-use fields::copy_field;
-use fields::next_piece;
 use fields::read_field;
 use questions::resolve;
 use spec::Kind;
@@ -27,7 +27,7 @@ ghost use Rattle.spec.specs.Fields.{reading, split, fieldsOf};
 ghost use Rattle.spec.specs.Chain.{placed, joinedFields};
 ghost use Rattle.spec.specs.Lookup.{winning};
 ghost use Rattle.spec.specs.Listing.{fourBytes, records, listOutcome, flatOutcome};
-ghost use Rattle.fields.specs.Answers.{fieldAt};
+ghost use Rattle.field_bounds.specs.Answers.{fieldAt};
 ghost use Rattle.chain.specs.Answers.{placesOf};
 ghost use Rattle.listing.specs.Answers.{NameBytes, keyOf, first, wonIf, SomeMarks, Took, oneField, Passes, WroteWinning, flatOf, Put};
 

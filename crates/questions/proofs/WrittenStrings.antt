@@ -20,11 +20,11 @@ use Rattle.spec.proofs.Tests.{pick-all}
 use Rattle.spec.proofs.Buffers.{put-fits, put-full}
 use Rattle.spec.proofs.Readings.{decode-short}
 use Rattle.spec.proofs.Stores.{stored-front}
-use Rattle.fields.specs.Answers.{fieldAt}
-use Rattle.fields.specs.Steps.{Decodes}
-use Rattle.fields.specs.declared.Decoding.{Decoding}
-use Rattle.fields.specs.declared.Decoding.the-variants.{Good, Bad}
-use Rattle.fields.proofs.LineBounds.{line-bound}
+use Rattle.field_bounds.specs.Answers.{fieldAt}
+use Rattle.field_bounds.proofs.LineBounds.{line-bound}
+use Rattle.escapes.specs.Steps.{Decodes}
+use Rattle.escapes.specs.declared.Decoding.{Decoding}
+use Rattle.escapes.specs.declared.Decoding.the-variants.{Good, Bad}
 use Rattle.questions.specs.Answers.{TextWritten, FieldWritten}
 
 upto-short : (c : ℕ) (l : List ℕ) → length (upto c l) ≤ length l

@@ -17,7 +17,7 @@ use Rattle.spec.specs.Questions.{terminalOf, terminalFor, presented, decodedOut
 use Rattle.spec.specs.declared.Answer.{Answer}
 use Rattle.spec.specs.declared.Shown.{Shown}
 use Rattle.spec.specs.declared.Shown.the-variants.{Part, Refused as NotShown}
-use Rattle.fields.specs.Answers.{fieldAt}
+use Rattle.field_bounds.specs.Answers.{fieldAt}
 use Rattle.chain.specs.Answers.{placesOf}
 use Rattle.chain.specs.declared.Chain.{Chain}
 use Rattle.chain.specs.declared.Ended.{Ended}

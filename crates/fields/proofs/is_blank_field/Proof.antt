@@ -5,7 +5,7 @@ use Prim.Native.Nat.{_-_}
 use mathlib.Core.Path.{_≡_, refl, _∙_, sym}
 use lib.ListN.{length}
 use Rattle.spec.specs.Lines.{blank}
-use Rattle.fields.specs.Answers.{fieldAt}
+use Rattle.field_bounds.specs.Answers.{fieldAt}
 use Rattle.fields.proofs.Names.{blank-next, blank-stops}
 use borrow.Author.Needs.{needs}
 use Rattle.fields.proofs.is_blank_field.Statement.{statement}

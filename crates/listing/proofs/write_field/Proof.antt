@@ -1,6 +1,6 @@
 -- `listing::write_field` meets its contract: lost, a record, or a text with its colon. Assumes nothing.
 use native.Mathlib.Omega.{arith}
-use Rattle.fields.specs.Answers.{fieldAt}
+use Rattle.field_bounds.specs.Answers.{fieldAt}
 use Rattle.questions.proofs.WrittenStrings.{field-bound}
 use Rattle.listing.proofs.Passing.{take-lost, take-record, take-text}
 use borrow.Author.Needs.{needs}

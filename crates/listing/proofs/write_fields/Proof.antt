@@ -9,8 +9,8 @@ use Rattle.spec.specs.Lines.{lineAt}
 use Rattle.spec.specs.Fields.{split}
 use Rattle.spec.specs.Chain.{Field, placed}
 use Rattle.spec.proofs.FieldSteps.{split-nil}
-use Rattle.fields.specs.Answers.{fieldAt}
-use Rattle.fields.proofs.LineBounds.{size-bound}
+use Rattle.field_bounds.specs.Answers.{fieldAt}
+use Rattle.field_bounds.proofs.LineBounds.{size-bound}
 use Rattle.listing.specs.Answers.{SomeMarks, oneField, Passes}
 use Rattle.listing.specs.declared.Form.{Form}
 use Rattle.listing.proofs.Passing.{pass-none, pass-then, pass-bound, line-done, line-last, line-more, line-size-bound}

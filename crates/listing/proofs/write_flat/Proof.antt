@@ -2,7 +2,7 @@
 -- Assumes nothing.
 use native.Mathlib.Omega.{arith}
 use lib.ListN.{getD}
-use Rattle.fields.specs.Answers.{fieldAt}
+use Rattle.field_bounds.specs.Answers.{fieldAt}
 use Rattle.questions.proofs.WrittenStrings.{field-bound}
 use Rattle.listing.proofs.Delivering.{flat-refused, flat-written, first-names}
 use borrow.Author.Needs.{needs}

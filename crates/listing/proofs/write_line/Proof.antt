@@ -2,7 +2,7 @@
 use Prim.Native.Nat.{_-_}
 use native.Mathlib.Omega.{arith}
 use Rattle.spec.specs.Chain.{placed}
-use Rattle.fields.proofs.WholeLine.{part-fields}
+use Rattle.field_bounds.proofs.Parts.{part-fields}
 use Rattle.questions.proofs.Scanning.{no-fields}
 use Rattle.listing.proofs.Passing.{pass-none}
 use borrow.Author.Needs.{needs}

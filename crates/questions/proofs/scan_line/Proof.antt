@@ -4,7 +4,7 @@ use mathlib.Core.Path.{_∙_, ap}
 use mathlib.Core.List.{List}
 use native.Mathlib.Omega.{arith}
 use Rattle.spec.specs.Lists.{upto}
-use Rattle.fields.proofs.WholeLine.{part-at, part-fields, part-inside}
+use Rattle.field_bounds.proofs.Parts.{part-at, part-fields, part-inside}
 use Rattle.questions.specs.Answers.{answered}
 use Rattle.questions.proofs.Scanning.{scan-no-colon}
 use borrow.Author.Needs.{needs}

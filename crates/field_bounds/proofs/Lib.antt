@@ -1,0 +1,5 @@
+pub mod FieldBytes
+pub mod Pieces
+pub mod Copying
+pub mod LineBounds
+pub mod Parts

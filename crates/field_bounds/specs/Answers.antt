@@ -1,0 +1,44 @@
+-- What the functions answer, by the cases of their answers. `s` is a part of the database; a place is an index of it.
+use Prim.Native.Nat.{ℕ, _≤_, _<_}
+use mathlib.Core.Path.{_≡_}
+use mathlib.Core.Bool.{true, false}
+use mathlib.Core.List.{List, [], _∷_}
+use lib.ListN.{length}
+use Rattle.spec.specs.Lists.{upto, past, holds}
+use Rattle.spec.specs.Lines.{lineAt}
+use Rattle.spec.specs.Fields.{split, namesOf}
+use Rattle.lines.specs.declared.Step.{Step}
+use Rattle.lines.specs.declared.Step.the-variants.{Byte, End}
+use Rattle.field_bounds.specs.declared.Colon.{Colon}
+use Rattle.field_bounds.specs.declared.Colon.the-variants.{After, Missing}
+use Rattle.field_bounds.specs.declared.Piece.{Piece}
+use Rattle.field_bounds.specs.declared.Piece.the-variants.{Nothing, Last, Then}
+use Rattle.field_bounds.specs.declared.AfterNames.{AfterNames}
+use Rattle.field_bounds.specs.declared.AfterNames.the-variants.{At, NoColon}
+
+-- The text of the field at a place: up to the next colon (58), or the line's end.
+abbrev pub fieldAt : List ℕ → ℕ → List ℕ
+fieldAt s at = upto 58 (lineAt s at)
+
+-- `field_byte`: the field at a place is a byte and the field at the place that it answers, or empty.
+abbrev pub FieldStep : List ℕ → ℕ → Step → Type 0
+FieldStep s at (Byte b n) = (fieldAt s at ≡ b ∷ fieldAt s n) × (at < n) × (n ≤ length s)
+FieldStep s at End = fieldAt s at ≡ []
+
+-- `find_colon`: a colon ends the field at a place, and the rest of the line follows; or there is none.
+abbrev pub ColonFound : List ℕ → ℕ → Colon → Type 0
+ColonFound s at (After n next) =
+    (holds 58 (lineAt s at) ≡ true) × (past 58 (lineAt s at) ≡ lineAt s next) × (length (fieldAt s at) ≡ n) × (at < next) × (next ≤ length s)
+ColonFound s at (Missing n) = (holds 58 (lineAt s at) ≡ false) × (length (fieldAt s at) ≡ n)
+
+-- `next_piece`: the fields from a place on are none; one of so many bytes, and it is the last; or one, and those from a place on.
+abbrev pub Pieced : List ℕ → ℕ → Piece → Type 0
+Pieced s at Nothing = lineAt s at ≡ []
+Pieced s at (Last n) = (split (lineAt s at) ≡ fieldAt s at ∷ []) × (length (fieldAt s at) ≡ n)
+Pieced s at (Then n next) = (split (lineAt s at) ≡ fieldAt s at ∷ split (lineAt s next)) × (length (fieldAt s at) ≡ n) × (at < next) × (next ≤ length s)
+
+-- `after_names`: a line has no colon; or its fields are read from a place on, and its names have so many bytes.
+abbrev pub NamesPassed : List ℕ → ℕ → AfterNames → Type 0
+NamesPassed db at NoColon = holds 58 (lineAt db at) ≡ false
+NamesPassed db at (At fields n) =
+    (holds 58 (lineAt db at) ≡ true) × (past 58 (lineAt db at) ≡ lineAt db fields) × (length (namesOf (lineAt db at)) ≡ n) × (at < fields) × (fields ≤ length db)
