@@ -506,21 +506,27 @@ fn next_count(n: usize) -> usize
 }
 
 // The first hit from `at` on, or the last place but two: up to 256 blocks at a time.
-fn hit_by_stretches(s: &[u8], at: usize, name: &[u8]) -> usize
+fn hit_by_stretches(
+    s: &[u8],
+    at: usize,
+    name: &[u8],
+    blocks: &mut [u16],
+    parts: &mut [u16],
+) -> usize
     requires { ⌜ 0 < length (now name) ⌝ }
     requires { ⌜ at + 2 ≤ length (now s) ⌝ }
+    requires { ⌜ length (now blocks) ≡ 256 ⌝ }
+    requires { ⌜ length (now parts) ≡ 768 ⌝ }
     ensures { λ r. ⌜ Passed (now (s .entry)) (now (name .entry)) at r ⌝ }
 {
     let len = s.len();
     let reach = name.len() + 82;
     let plain = is_plain(name);
-    let mut blocks = [0u16; 256];
-    let mut parts = [0u16; 768];
     let mut n = 4;
     let mut i = at;
     while reach <= len - i {
         let m = fitting(n, len - i - reach);
-        let found = hit_in_stretch(s, i, m, name, plain, &mut blocks, &mut parts);
+        let found = hit_in_stretch(s, i, m, name, plain, blocks, parts);
         if found - i < m * 48 {
             return found;
         }
@@ -530,8 +536,9 @@ fn hit_by_stretches(s: &[u8], at: usize, name: &[u8]) -> usize
     first_hit(s, i, len - 2, name)
 }
 
-// The first hit from `at` on, or the last place but two. An empty name has no length to look for.
-pub fn next_hit(s: &[u8], at: usize, name: &[u8]) -> usize
+// The first hit from `at` on, or the last place but two. An empty name has no length to look for. The lists, of 256 and 768 numbers, are
+// lent, so that they are not cleared for each hit.
+pub fn next_hit(s: &[u8], at: usize, name: &[u8], blocks: &mut [u16], parts: &mut [u16]) -> usize
     ensures { λ r. ⌜ (0 < length (now (name .entry)) → at + 2 ≤ length (now (s .entry)) → Passed (now (s .entry)) (now (name .entry)) at r) ⌝ }
 {
     if name.len() == 0 {
@@ -543,5 +550,11 @@ pub fn next_hit(s: &[u8], at: usize, name: &[u8]) -> usize
     if s.len() - 2 < at {
         return at;
     }
-    hit_by_stretches(s, at, name)
+    if blocks.len() != 256 {
+        return at;
+    }
+    if parts.len() != 768 {
+        return at;
+    }
+    hit_by_stretches(s, at, name, blocks, parts)
 }

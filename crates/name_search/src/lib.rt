@@ -34,7 +34,7 @@ fn line_of(s: &[u8], end: usize, at: usize) -> usize
 
 // Where a line starts, behind the line that ends at `end`, such that no line between the two has the name. An empty name has no byte to
 // look for, and before the third byte there are no two: each line may have it.
-fn next_candidate(s: &[u8], end: usize, name: &[u8]) -> Next
+fn next_candidate(s: &[u8], end: usize, name: &[u8], blocks: &mut [u16], parts: &mut [u16]) -> Next
     requires { do ⌜ end ≤ (← ⟦s.len()⟧) ⌝ }
     requires { ⌜ (end < length (now s) → Closes (now s) end) ⌝ }
     ensures { λ r. ⌜ NextCandidate (now (s .entry)) (now (name .entry)) end r ⌝ }
@@ -49,7 +49,7 @@ fn next_candidate(s: &[u8], end: usize, name: &[u8]) -> Next
     if name.len() == 0 {
         return Next::To(end + 1);
     }
-    let at = next_hit(s, end - 2, name);
+    let at = next_hit(s, end - 2, name, blocks, parts);
     if len - at > 2 {
         return Next::To(line_of(s, end, at + 3));
     }
@@ -61,6 +61,8 @@ fn next_candidate(s: &[u8], end: usize, name: &[u8]) -> Next
 pub fn find_line(db: &[u8], name: &[u8]) -> Found
     ensures { λ r. ⌜ r ≡ findLine (now (db .entry)) (now (name .entry)) ⌝ }
 {
+    let mut blocks = [0u16; 256];
+    let mut parts = [0u16; 768];
     let mut at = 0;
     'lines: loop {
         if !is_ignored(db, at) {
@@ -75,7 +77,7 @@ pub fn find_line(db: &[u8], name: &[u8]) -> Found
                 }
             }
         }
-        match next_candidate(db, line_end(db, at), name) {
+        match next_candidate(db, line_end(db, at), name, &mut blocks, &mut parts) {
             Next::To(n) => at = n,
             Next::Last => break Found::Nothing,
         }

@@ -10,10 +10,10 @@ use Rattle.name_scan.proofs.hit_by_stretches.Statement.{statement}
 use Rattle.name_scan.proofs.hit_by_stretches.Tie as tie
 
 abbrev Inv-loop : tie.InvT-loop
-Inv-loop s at name len reach plain blocks₀ parts₀ n₀ i₀ blocks parts n i = (length blocks ≡ 256) × (length parts ≡ 768) × (0 < n) × (n ≤ 256) × Passed s name at i
+Inv-loop s at name blocks₀ parts₀ len reach plain n₀ i₀ blocks parts n i = (length blocks ≡ 256) × (length parts ≡ 768) × (0 < n) × (n ≤ 256) × Passed s name at i
 
 abbrev μ-loop : tie.MeasureT-loop
-μ-loop s at name len reach plain blocks₀ parts₀ n₀ i₀ blocks parts n i = length s - i
+μ-loop s at name blocks₀ parts₀ len reach plain n₀ i₀ blocks parts n i = length s - i
 
 add-reach : tie.Need-add-reach Inv-loop μ-loop
 add-reach c = omega arith
@@ -22,7 +22,7 @@ is-plain-requires : tie.Need-is-plain-requires Inv-loop μ-loop
 is-plain-requires c κs = tt
 
 loop-holds : tie.Need-loop-holds Inv-loop μ-loop
-loop-holds c = (refl, refl, omega arith, omega arith, passed-none _ refl (omega arith))
+loop-holds c = (c .before .before .before .before .before .pre .1 .1 .0, c .before .before .before .before .before .pre .1 .1 .1, omega arith, omega arith, passed-none _ refl (omega arith))
 
 sub-loop : tie.Need-sub-loop Inv-loop μ-loop
 sub-loop c = omega arith
@@ -36,40 +36,40 @@ sub-fitting-2 c = omega arith
 fitting-requires : tie.Need-fitting-requires Inv-loop μ-loop
 fitting-requires c κs = omega arith
 
-slice-aggregate-hit-in-stretch : tie.Need-slice-aggregate-hit-in-stretch Inv-loop μ-loop
-slice-aggregate-hit-in-stretch c = omega arith
-
-slice-aggregate-hit-in-stretch-2 : tie.Need-slice-aggregate-hit-in-stretch-2 Inv-loop μ-loop
-slice-aggregate-hit-in-stretch-2 c = omega arith
-
 hit-in-stretch-requires : tie.Need-hit-in-stretch-requires Inv-loop μ-loop
 hit-in-stretch-requires c κs =
     let f = c .before .before .fitting .ensures in
     let l = c .before .before .before .before .loop in
-    (omega arith, (omega arith, (c .before .before .before .before .before .is-plain .ensures, (omega arith, (omega (arith, l .inv .0), omega (arith, l .inv .1))))))
+    (omega arith, (omega arith, (c .before .before .before .before .before .is-plain .ensures, (omega arith, (l .inv .0, l .inv .1)))))
 
 sub-if1 : tie.Need-sub-if1 Inv-loop μ-loop
-sub-if1 c = omega (arith, c .before .before .hit-in-stretch .ensures .1 .from)
+sub-if1 c = omega (arith, c .before .before .before .before .hit-in-stretch .ensures .1 .from)
 
 mul-if1 : tie.Need-mul-if1 Inv-loop μ-loop
-mul-if1 c = omega (arith, c .before .before .before .before .before .fitting .ensures)
+mul-if1 c = omega (arith, c .before .before .before .before .before .before .before .fitting .ensures)
+
+same-length : tie.Need-same-length Inv-loop μ-loop
+same-length c = omega (arith, c .before .before .before .before .before .before .before .before .before .before .loop .inv .0, c .before .before .before .before .before .before .before .before .before .before .before .before .before .before .before .before .pre .1 .1 .0)
+
+same-length-2 : tie.Need-same-length-2 Inv-loop μ-loop
+same-length-2 c = omega (arith, c .before .before .before .before .before .before .before .before .before .before .loop .inv .1, c .before .before .before .before .before .before .before .before .before .before .before .before .before .before .before .before .pre .1 .1 .1)
 
 returns : tie.Need-returns Inv-loop μ-loop
-returns c = passed-join (c .before .before .before .before .before .before .before .before .loop .inv .4) (c .before .before .before .hit-in-stretch .ensures .1)
+returns c = passed-join (c .before .before .before .before .before .before .before .before .before .before .loop .inv .4) (c .before .before .before .before .before .hit-in-stretch .ensures .1)
 
 next-count-requires : tie.Need-next-count-requires Inv-loop μ-loop
 next-count-requires c κs = omega arith
 
 loop-less : tie.Need-loop-less Inv-loop μ-loop
 loop-less c =
-    let f = c .before .before .before .before .before .before .before .fitting .ensures in
-    let p = c .before .before .before .before .hit-in-stretch .ensures in
+    let f = c .before .before .before .before .before .before .before .before .before .fitting .ensures in
+    let p = c .before .before .before .before .before .before .hit-in-stretch .ensures in
     omega arith
 
 loop-again : tie.Need-loop-again Inv-loop μ-loop
 loop-again c =
-    let p = c .before .before .before .before .hit-in-stretch .ensures in
-    let l = c .before .before .before .before .before .before .before .before .before .loop in
+    let p = c .before .before .before .before .before .before .hit-in-stretch .ensures in
+    let l = c .before .before .before .before .before .before .before .before .before .before .before .loop in
     (omega (arith, l .inv .0), omega (arith, l .inv .1), omega arith, omega arith, passed-join (l .inv .4) (p .1))
 
 sub-first-hit : tie.Need-sub-first-hit Inv-loop μ-loop
@@ -77,6 +77,12 @@ sub-first-hit c = omega arith
 
 first-hit-requires : tie.Need-first-hit-requires Inv-loop μ-loop
 first-hit-requires c κs = (omega arith, omega arith)
+
+same-length-3 : tie.Need-same-length-3 Inv-loop μ-loop
+same-length-3 c = omega (arith, c .before .before .loop .inv .0, c .before .before .before .before .before .before .before .before .pre .1 .1 .0)
+
+same-length-4 : tie.Need-same-length-4 Inv-loop μ-loop
+same-length-4 c = omega (arith, c .before .before .loop .inv .1, c .before .before .before .before .before .before .before .before .pre .1 .1 .1)
 
 returns-2 : tie.Need-returns-2 Inv-loop μ-loop
 returns-2 c = passed-join (c .before .before .loop .inv .4) (c .first-hit .ensures .1)
@@ -94,15 +100,17 @@ hit-by-stretches-spec =
     sub-fitting
     sub-fitting-2
     fitting-requires
-    slice-aggregate-hit-in-stretch
-    slice-aggregate-hit-in-stretch-2
     hit-in-stretch-requires
     sub-if1
     mul-if1
+    same-length
+    same-length-2
     returns
     next-count-requires
     loop-less
     loop-again
     sub-first-hit
     first-hit-requires
+    same-length-3
+    same-length-4
     returns-2)

@@ -16,20 +16,20 @@ use Rattle.name_search.proofs.find_line.Statement.{statement}
 use Rattle.name_search.proofs.find_line.Tie as tie
 
 abbrev Inv-loop : tie.InvT-loop
-Inv-loop db name at p₀ p = hasName name (lineText (textAt db at)) ≡ hasName name (lineText (textAt db p))
+Inv-loop db name blocks parts at p₀ p = hasName name (lineText (textAt db at)) ≡ hasName name (lineText (textAt db p))
 
 abbrev μ-loop : tie.MeasureT-loop
-μ-loop db name at p₀ p = length db - p
+μ-loop db name blocks parts at p₀ p = length db - p
 
 abbrev Inv-lines : tie.InvT-lines
-Inv-lines db name at₀ at = (at ≤ length db) × Apart db at × (findLine db name ≡ find name (linesFrom at (textAt db at)))
+Inv-lines db name blocks₀ parts₀ at₀ blocks parts at = (at ≤ length db) × Apart db at × (findLine db name ≡ find name (linesFrom at (textAt db at))) × (length blocks ≡ 256) × (length parts ≡ 768)
 
 abbrev μ-lines : tie.MeasureT-lines
-μ-lines db name at₀ at = length db - at
+μ-lines db name blocks₀ parts₀ at₀ blocks parts at = length db - at
 
 lines-holds : tie.Need-lines-holds Inv-loop μ-loop Inv-lines μ-lines
 unfolding findLine
-lines-holds c = (omega arith, apart-start (c .before .before .args .db .now), refl)
+lines-holds c = (omega arith, apart-start (c .before .before .args .db .now), refl, refl, refl)
 
 is-ignored-requires : tie.Need-is-ignored-requires Inv-loop μ-loop Inv-lines μ-lines
 is-ignored-requires c κs = tt
@@ -81,22 +81,28 @@ came c = missed (c .before) ∙ ap (find _) (ended c .lines)
 inside : (c : tie.After-line-end Inv-loop μ-loop Inv-lines μ-lines) → (c .before .before .before .lines .at ≤ c .line-end .result) × (c .line-end .result ≤ length (c .before .before .before .before .before .before .args .db .now))
 inside c = rw (c .line-end .ensures) (extent-inside _ _ (c .before .before .before .lines .inv .0))
 
+slice-aggregate-next-candidate : tie.Need-slice-aggregate-next-candidate Inv-loop μ-loop Inv-lines μ-lines
+slice-aggregate-next-candidate c = omega arith
+
+slice-aggregate-next-candidate-2 : tie.Need-slice-aggregate-next-candidate-2 Inv-loop μ-loop Inv-lines μ-lines
+slice-aggregate-next-candidate-2 c = omega arith
+
 next-candidate-requires : tie.Need-next-candidate-requires Inv-loop μ-loop Inv-lines μ-lines
-next-candidate-requires c κs = (inside c .1, ended c .closes)
+next-candidate-requires c κs = (inside (c .before .before) .1, ended (c .before .before) .closes)
 
 enum-known-n-2 : tie.Need-enum-known-n-2 Inv-loop μ-loop Inv-lines μ-lines
 enum-known-n-2 c = search needs
 
 lines-less : tie.Need-lines-less Inv-loop μ-loop Inv-lines μ-lines
 lines-less c =
-    let p = rw (c .before .n2 .given .1) at (c .before .before .before .next-candidate .ensures) in
+    let p = rw (c .before .n2 .given .1) at (c .before .before .before .before .before .next-candidate .ensures) in
     let w = p .starts in
-    omega (arith, inside (c .before .before .before .before) .0, w .1, w .2, p .inside)
+    omega (arith, inside (c .before .before .before .before .before .before .before .before) .0, w .1, w .2, p .inside)
 
 lines-again : tie.Need-lines-again Inv-loop μ-loop Inv-lines μ-lines
 lines-again c =
-    let p = rw (c .before .n2 .given .1) at (c .before .before .before .next-candidate .ensures) in
-    (p .inside, apart-behind _ _ _ (p .starts), came (c .before .before .before .before) ∙ p .passed)
+    let p = rw (c .before .n2 .given .1) at (c .before .before .before .before .before .next-candidate .ensures) in
+    (p .inside, apart-behind _ _ _ (p .starts), came (c .before .before .before .before .before .before .before .before) ∙ p .passed, omega (arith, c .before .before .before .before .before .before .before .before .before .before .before .lines .inv .3), omega (arith, c .before .before .before .before .before .before .before .before .before .before .before .lines .inv .4))
 
 enum-told-2 : tie.Need-enum-told-2 Inv-loop μ-loop Inv-lines μ-lines
 enum-told-2 c = search needs
@@ -109,8 +115,8 @@ returns c =
 
 returns-2 : tie.Need-returns-2 Inv-loop μ-loop Inv-lines μ-lines
 returns-2 c =
-    let p = rw (c .enum-told2 .given .1) at (c .before .before .next-candidate .ensures) in
-    sym (came (c .before .before .before) ∙ p)
+    let p = rw (c .enum-told2 .given .1) at (c .before .before .before .before .next-candidate .ensures) in
+    sym (came (c .before .before .before .before .before .before .before) ∙ p)
 
 pub find-line-spec : {M : Type 1} → statement M
 find-line-spec =
@@ -130,6 +136,8 @@ find-line-spec =
     loop-again
     enum-told
     line-end-requires
+    slice-aggregate-next-candidate
+    slice-aggregate-next-candidate-2
     next-candidate-requires
     enum-known-n-2
     lines-less
