@@ -2,7 +2,7 @@
 -- Assumes nothing.
 use Prim.Native.Nat.{ℕ, _+_, _-_, _≤_, _<_}
 use mathlib.Core.Path.{_≡_, refl, _∙_}
-use mathlib.Core.Bool.{Bool, true, false, _&&_, _||_, true≢false}
+use mathlib.Core.Bool.{Bool, true, false, not, _&&_, _||_, true≢false}
 use mathlib.Core.List.{List}
 use mathlib.Core.Logic.{_⊎_, inl, inr, ⊎-elim}
 use native.Mathlib.Omega.{arith}
@@ -175,17 +175,17 @@ picked-below false x y e h g = omega arith
 too-short : (s : List ℕ) (p r d : ℕ) → Measured s p r → r < d → d ≤ 32 → Whole s p (p + d) → ⊥
 too-short s p r d x h g z = z .holds (p + r) (omega arith) (omega arith) (x .ends (omega arith))
 
-both-same : (a b c d : ℕ) (held : Bool) → (held || (eqb a b && eqb c d)) ≡ false → a ≡ b → c ≡ d → ⊥
-both-same a b c d true e f g = true≢false e
-both-same a b c d false e f g = true≢false (rw (eq-eqb a b f, eq-eqb c d g) at e)
+both-same : (a b c d : ℕ) → (eqb a b && eqb c d) ≡ false → a ≡ b → c ≡ d → ⊥
+both-same a b c d e f g = true≢false (rw (eq-eqb a b f, eq-eqb c d g) at e)
 
--- by the bytes at the places i and j, which are the name's ends if it is long enough
+-- by the bytes at the places i and j, which are the name's ends if it is long enough and its length is not open
 pub unlike :
     (s n : List ℕ) (p r i j : ℕ) (held : Bool) → 0 < length n → length n ≤ 32 → Measured s p r
-    → i ≡ pickOf (leb (length n) r) p (p - 1) → j ≡ pickOf (leb (length n) r) (p + length n - 1) (p - 1)
+    → i ≡ pickOf (leb (length n) r && not held) p (p - 1) → j ≡ pickOf (leb (length n) r && not held) (p + length n - 1) (p - 1)
     → (held || (eqb (getD s i 0) (getD n 0 0) && eqb (getD s j 0) (getD n (length n - 1) 0))) ≡ false
     → Spelled s n p → Whole s p (p + length n) → ⊥
-unlike s n p r i j held some few x e f h y z = go (leb (length n) r) refl
+unlike s n p r i j true some few x e f h y z = true≢false h
+unlike s n p r i j false some few x e f h y z = go (leb (length n) r) refl
   where
     go : (w : Bool) → leb (length n) r ≡ w → ⊥
     go false w =
@@ -194,7 +194,7 @@ unlike s n p r i j held some few x e f h y z = go (leb (length n) r) refl
     go true w =
         let first : i ≡ p + 0 = rw w at e ∙ omega arith in
         let last : j ≡ p + (length n - 1) = rw w at f ∙ omega arith in
-        both-same (getD s i 0) (getD n 0 0) (getD s j 0) (getD n (length n - 1) 0) held h (rw first (y 0 some)) (rw last (y (length n - 1) (omega arith)))
+        both-same (getD s i 0) (getD n 0 0) (getD s j 0) (getD n (length n - 1) 0) h (rw first (y 0 some)) (rw last (y (length n - 1) (omega arith)))
 
 -- ---- the last of the marked places is the only one that matters
 
@@ -204,14 +204,14 @@ is-ending b (inr e) = inr (inr e)
 
 pub settled-marked :
     (s n : List ℕ) (a high low : ℕ) → Marked s n a 16 high low → high ≤ 16 → high + low ≤ length n + 17
-    → (Spelled s n (a + high + 2) → Whole s (a + high + 2) (a + high + 2 + length n) → ⊥) → AllSettled s n a (a + 16)
+    → (0 < high → Spelled s n (a + high + 2) → Whole s (a + high + 2) (a + high + 2 + length n) → ⊥) → AllSettled s n a (a + 16)
 settled-marked s n a high low x h g unlike = record { holds = λ k l m. settled k l m (k - a) (omega arith) }
   where
     other : (j : ℕ) → j < 16 → Fits s n (a + j) → Spelled s n (a + j + 3) → Whole s (a + j + 3) (a + j + 3 + length n) → (y : Bool) → eqb (j + 1) high ≡ y → ⊥
     other j l f sp wh true y =
         let z = eqb-true (j + 1) high y in
         let same : a + high + 2 ≡ a + j + 3 = omega arith in
-        unlike (rw same sp) (rw same wh)
+        unlike (omega arith) (rw same sp) (rw same wh)
     other j l f sp wh false y =
         let z = eqb-false (j + 1) high y in
         let u = x .upto j l f in

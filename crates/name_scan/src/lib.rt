@@ -328,7 +328,7 @@ fn pick(held: bool, place: usize, other: usize) -> usize
 
 // Whether the name at a place may be the asked one. It is measured first: if it has another length, the separator before it stands for
 // its bytes, and none of them is compared. So there is no branch, which would often be guessed wrongly. A backslash at the name's end, or
-// behind it, may belong to a pair, and then the name is longer.
+// behind it, may belong to a pair, and then its length is open.
 fn is_like(s: &[u8], at: usize, name: &[u8]) -> bool
     requires { ⌜ 0 < length (now name) ⌝ }
     requires { ⌜ 0 < at ⌝ }
@@ -341,10 +341,13 @@ fn is_like(s: &[u8], at: usize, name: &[u8]) -> bool
         return true;
     }
     let whole = size <= (measure(s, at) as usize);
-    let first = s[pick(whole, at, at - 1)];
     let last = s[pick(whole, at + size - 1, at - 1)];
     let behind = s[pick(whole, at + size, at - 1)];
-    ((last == 92) | (behind == 92)) | ((first == name[0]) & (last == name[size - 1]))
+    let open = (last == 92) | (behind == 92);
+    let sure = whole & !open;
+    let start = s[pick(sure, at, at - 1)];
+    let end = s[pick(sure, at + size - 1, at - 1)];
+    open | ((start == name[0]) & (end == name[size - 1]))
 }
 
 // Whether one of the 16 places from `at` on may be a hit. Of those where a name may have the asked length, the last one is looked at: an
@@ -357,6 +360,9 @@ fn any_mark(s: &[u8], at: usize, name: &[u8]) -> bool
     let marks = mark_places(s, at, name);
     let high = marks.high as usize;
     let low = marks.low as usize;
+    if high == 0 {
+        return false;
+    }
     if high > 16 {
         return true;
     }

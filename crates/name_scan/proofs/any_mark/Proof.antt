@@ -17,16 +17,22 @@ cast-low : tie.Need-cast-low
 cast-low c = search needs
 
 returns : tie.Need-returns
-returns c = λ e. absurd (true≢false e)
-
-add-if2 : tie.Need-add-if2
-add-if2 c = search needs
-
-add-if2-2 : tie.Need-add-if2-2
-add-if2-2 c = search needs
+returns c =
+    let m = c .before .before .before .mark-places .ensures in
+    let low = m .lowest in
+    λ e. settled-marked _ _ (c .before .before .before .before .before .before .args .at) _ _ m (omega arith) (omega arith) (λ h. absurd (omega arith))
 
 returns-2 : tie.Need-returns-2
 returns-2 c = λ e. absurd (true≢false e)
+
+add-if3 : tie.Need-add-if3
+add-if3 c = search needs
+
+add-if3-2 : tie.Need-add-if3-2
+add-if3-2 c = search needs
+
+returns-3 : tie.Need-returns-3
+returns-3 c = λ e. absurd (true≢false e)
 
 add-is-like : tie.Need-add-is-like
 add-is-like c = search needs
@@ -37,8 +43,8 @@ add-is-like-2 c = search needs
 is-like-requires : tie.Need-is-like-requires
 is-like-requires c κs = search needs
 
-returns-3 : tie.Need-returns-3
-returns-3 c = λ e. settled-marked _ _ (c .before .before .before .before .before .before .before .before .args .at) _ _ (c .before .before .before .before .before .mark-places .ensures) (omega arith) (omega arith) (c .is-like .ensures e)
+returns-4 : tie.Need-returns-4
+returns-4 c = λ e. settled-marked _ _ (c .before .before .before .before .before .before .before .before .before .args .at) _ _ (c .before .before .before .before .before .before .mark-places .ensures) (omega arith) (omega arith) (λ h. c .is-like .ensures e)
 
 pub any-mark-spec : {M : Type 1} → statement M
 any-mark-spec =
@@ -48,10 +54,11 @@ any-mark-spec =
     cast-high
     cast-low
     returns
-    add-if2
-    add-if2-2
     returns-2
+    add-if3
+    add-if3-2
+    returns-3
     add-is-like
     add-is-like-2
     is-like-requires
-    returns-3)
+    returns-4)
