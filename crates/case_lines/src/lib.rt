@@ -1,22 +1,25 @@
 // What the programs of cases share: they read their cases from lines of fields, and write the answers.
 //
 // A bar stands after each field of a line but the last. In a text a backslash and two hexadecimal digits stand for a byte.
-ghost use Prim.Native.Nat.{_≤_, _<_};
-ghost use lib.ListN.{length};
+ghost use mathlib.Core.Path.{_≡_};
+ghost use mathlib.Core.List.{_∷_};
+ghost use Prim.Native.Nat.{_≤_, _<_, min, max};
+ghost use lib.ListN.{length, drop};
+ghost use lib.Seq.{sets};
+ghost use Rattle.case_lines.specs.Fields.{placeOf, after, fieldOf, digitOf, numberOf, hexDigitOf, bytesOf, textOf};
 use spec::Written;
 
 const MOST_ROOM: usize = 64;
 
 // A byte of a text, and the place after what it is written as.
-pub struct Decoded {
-    pub byte: u8,
-    pub next: usize,
+struct Decoded {
+    byte: u8,
+    next: usize,
 }
 
-// The first place from `at` on where a byte stands, or the end.
+// The first place from `at` on where a byte stands, or the end; `at` itself if it lies past the end.
 pub fn find(s: &[u8], at: usize, b: u8) -> usize
-    requires { ⌜ at ≤ length (now s) ⌝ }
-    ensures { λ r. ⌜ (at ≤ r) × (r ≤ length (now (s .entry))) ⌝ }
+    ensures { λ r. ⌜ (r ≡ placeOf (now (s .entry)) at b) × (r ≤ max at (length (now (s .entry)))) ⌝ }
 {
     let mut i = at;
     while i < s.len() {
@@ -29,53 +32,59 @@ pub fn find(s: &[u8], at: usize, b: u8) -> usize
 }
 
 // Where a field of a line starts, or the end.
-fn field(line: &[u8], k: u8) -> usize
-    ensures { λ r. ⌜ r ≤ length (now (line .entry)) ⌝ }
+fn field_start(line: &[u8], k: u8) -> usize
+    ensures { λ r. ⌜ (drop r (now (line .entry)) ≡ after k (now (line .entry))) × (r ≤ length (now (line .entry))) ⌝ }
 {
     let mut at = 0;
-    let mut i = 0;
-    while i < k {
+    let mut left = k;
+    while left > 0 {
         let end = find(line, at, b'|');
         if end == line.len() {
             return end;
         }
         at = end + 1;
-        i += 1;
+        left -= 1;
     }
     at
 }
 
-fn digit(b: u8) -> u64
-    ensures { λ r. ⌜ r ≤ 9 ⌝ }
+fn field<'a>(line: &'a [u8], k: u8) -> &'a [u8]
+    ensures { λ r. ⌜ now r ≡ fieldOf (now (line .entry)) k ⌝ }
 {
-    if b < b'0' {
-        return 0;
+    let start = field_start(line, k);
+    let end = find(line, start, b'|');
+    &line[start..end]
+}
+
+fn digit(b: u8) -> u8
+    ensures { λ r. ⌜ (r ≡ digitOf b) × (r ≤ 9) ⌝ }
+{
+    match b {
+        b'0'..=b'9' => b - b'0',
+        _ => 0,
     }
-    if b > b'9' {
-        return 0;
-    }
-    (b - b'0') as u64
 }
 
 // A field that is a decimal number, of nine digits at most.
 pub fn number(line: &[u8], k: u8) -> u64
-    ensures { λ r. ⌜ r < 1000000000 ⌝ }
+    ensures { λ r. ⌜ r ≡ numberOf (now (line .entry)) k ⌝ }
 {
-    let start = field(line, k);
-    let end = find(line, start, b'|');
+    let f = field(line, k);
     let mut n = 0;
-    let mut i = start;
-    while i < end {
+    let mut i = 0;
+    while i < f.len() {
         if n > 99999999 {
             return n;
         }
-        n = n * 10 + digit(line[i]);
+        n = n * 10 + digit(f[i]) as u64;
         i += 1;
     }
     n
 }
 
-pub fn byte(line: &[u8], k: u8) -> u8 {
+pub fn byte(line: &[u8], k: u8) -> u8
+    ensures { λ r. ⌜ r ≡ min 255 (numberOf (now (line .entry)) k) ⌝ }
+{
     let n = number(line, k);
     if n > 255 {
         return 255;
@@ -84,20 +93,17 @@ pub fn byte(line: &[u8], k: u8) -> u8 {
 }
 
 fn hex_digit(b: u8) -> u8
-    ensures { λ r. ⌜ r ≤ 15 ⌝ }
+    ensures { λ r. ⌜ (r ≡ hexDigitOf b) × (r ≤ 15) ⌝ }
 {
-    if b < b'a' {
-        return digit(b) as u8;
+    match b {
+        b'a'..=b'f' => b - b'a' + 10,
+        _ => digit(b),
     }
-    if b > b'f' {
-        return 0;
-    }
-    b - b'a' + 10
 }
 
 fn decode(s: &[u8], at: usize) -> Decoded
     requires { ⌜ at < length (now s) ⌝ }
-    ensures { λ r. ⌜ (at < r .next) ⌝ }
+    ensures { λ r. ⌜ (bytesOf (drop at (now (s .entry))) ≡ r .byte ∷ bytesOf (drop (r .next) (now (s .entry)))) × (at < r .next) ⌝ }
 {
     let b = s[at];
     if b != b'\\' {
@@ -122,17 +128,17 @@ fn decode(s: &[u8], at: usize) -> Decoded
 
 // A field that is a text, as far as it fits.
 pub fn text(line: &[u8], k: u8, out: &mut [u8]) -> usize
-    ensures { λ r. ⌜ r ≤ length (now (out .exit)) ⌝ }
+    ensures { λ r. ⌜ (r ≡ min (length (textOf (now (line .entry)) k)) (length (now (out .exit))))
+        × (now (out .exit) ≡ sets (now (out .entry)) 0 (textOf (now (line .entry)) k)) ⌝ }
 {
-    let start = field(line, k);
-    let end = find(line, start, b'|');
-    let mut i = start;
+    let f = field(line, k);
+    let mut i = 0;
     let mut n = 0;
-    while i < end {
+    while i < f.len() {
         if n == out.len() {
             return n;
         }
-        let d = decode(line, i);
+        let d = decode(f, i);
         out[n] = d.byte;
         n += 1;
         i = d.next;
@@ -141,7 +147,7 @@ pub fn text(line: &[u8], k: u8, out: &mut [u8]) -> usize
 }
 
 pub fn room(line: &[u8], k: u8) -> usize
-    ensures { λ r. ⌜ r ≤ 64 ⌝ }
+    ensures { λ r. ⌜ r ≡ min 64 (numberOf (now (line .entry)) k) ⌝ }
 {
     let n = number(line, k) as usize;
     if n > MOST_ROOM {
@@ -149,6 +155,8 @@ pub fn room(line: &[u8], k: u8) -> usize
     }
     n
 }
+
+// ---- printing: what is written no contract can say, and nothing is answered
 
 pub fn show_refusal(n: u8) {
     io::write_all(1, b" refused ");

@@ -1,4 +1,5 @@
 -- `read_cases::run_case` is safe: what it lends of its arrays is within them. Assumes nothing.
+use native.Mathlib.Omega.{arith}
 use borrow.Author.Needs.{needs}
 use mathlib.Core.Path.{sym}
 use lib.Seq.{length-take-le}
@@ -30,13 +31,13 @@ array-share-prefix-name : tie.Need-array-share-prefix-name
 array-share-prefix-name c = search needs
 
 slice-aggregate-ask-in-room : tie.Need-slice-aggregate-ask-in-room
-slice-aggregate-ask-in-room c = sym (length-take-le _ _ (c .before .before .before .before .before .before .text .ensures))
+slice-aggregate-ask-in-room c = sym (length-take-le _ _ (omega (arith, c .before .before .before .before .before .before .text .ensures .0)))
 
 array-share-prefix-id : tie.Need-array-share-prefix-id
 array-share-prefix-id c = search needs
 
 slice-aggregate-ask-in-room-2 : tie.Need-slice-aggregate-ask-in-room-2
-slice-aggregate-ask-in-room-2 c = sym (length-take-le _ _ (c .before .before .before .before .text2 .ensures))
+slice-aggregate-ask-in-room-2 c = sym (length-take-le _ _ (omega (arith, c .before .before .before .before .text2 .ensures .0)))
 
 ask-in-room-requires : tie.Need-ask-in-room-requires
 ask-in-room-requires c κs = search needs

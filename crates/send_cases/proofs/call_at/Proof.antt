@@ -1,4 +1,5 @@
 -- `send_cases::call_at` is safe: what it lends of its arrays is within them. Assumes nothing.
+use native.Mathlib.Omega.{arith}
 use borrow.Author.Needs.{needs}
 use mathlib.Core.Path.{sym}
 use lib.Seq.{length-take-le}
@@ -27,7 +28,7 @@ array-share-prefix-command : tie.Need-array-share-prefix-command
 array-share-prefix-command c = search needs
 
 slice-aggregate-send-at : tie.Need-slice-aggregate-send-at
-slice-aggregate-send-at c = sym (length-take-le _ _ (c .before .before .before .before .before .before .before .before .text .ensures))
+slice-aggregate-send-at c = sym (length-take-le _ _ (omega (arith, c .before .before .before .before .before .before .before .before .text .ensures .0)))
 
 number-requires : tie.Need-number-requires
 number-requires c κs = search needs
@@ -39,13 +40,13 @@ array-share-prefix-back : tie.Need-array-share-prefix-back
 array-share-prefix-back c = search needs
 
 slice-aggregate-send-at-2 : tie.Need-slice-aggregate-send-at-2
-slice-aggregate-send-at-2 c = sym (length-take-le _ _ (c .before .before .before .before .before .before .before .before .text2 .ensures))
+slice-aggregate-send-at-2 c = sym (length-take-le _ _ (omega (arith, c .before .before .before .before .before .before .before .before .text2 .ensures .0)))
 
 array-share-prefix-up : tie.Need-array-share-prefix-up
 array-share-prefix-up c = search needs
 
 slice-aggregate-send-at-3 : tie.Need-slice-aggregate-send-at-3
-slice-aggregate-send-at-3 c = sym (length-take-le _ _ (c .before .before .before .before .before .before .text3 .ensures))
+slice-aggregate-send-at-3 c = sym (length-take-le _ _ (omega (arith, c .before .before .before .before .before .before .text3 .ensures .0)))
 
 number-requires-3 : tie.Need-number-requires-3
 number-requires-3 c κs = search needs

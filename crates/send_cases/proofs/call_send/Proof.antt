@@ -1,4 +1,5 @@
 -- `send_cases::call_send` is safe: what it lends of its array is within it. Assumes nothing.
+use native.Mathlib.Omega.{arith}
 use borrow.Author.Needs.{needs}
 use mathlib.Core.Path.{sym}
 use lib.Seq.{length-take-le}
@@ -15,7 +16,7 @@ array-share-prefix-command : tie.Need-array-share-prefix-command
 array-share-prefix-command c = search needs
 
 slice-aggregate-send : tie.Need-slice-aggregate-send
-slice-aggregate-send c = sym (length-take-le _ _ (c .before .before .text .ensures))
+slice-aggregate-send c = sym (length-take-le _ _ (omega (arith, c .before .before .text .ensures .0)))
 
 number-requires : tie.Need-number-requires
 number-requires c κs = search needs

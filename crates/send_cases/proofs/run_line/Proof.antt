@@ -1,4 +1,5 @@
 -- `send_cases::run_line` is safe: the room that it lends is within its array. Assumes nothing.
+use native.Mathlib.Omega.{arith}
 use borrow.Author.Needs.{needs}
 use mathlib.Core.Path.{sym}
 use lib.ListN.{replicate}
@@ -19,7 +20,7 @@ array-borrow-prefix-out : tie.Need-array-borrow-prefix-out
 array-borrow-prefix-out c = search needs
 
 slice-aggregate-case-at : tie.Need-slice-aggregate-case-at
-slice-aggregate-case-at c = sym (length-take-le _ (replicate 64 255) (c .before .room .ensures))
+slice-aggregate-case-at c = sym (length-take-le _ (replicate 64 255) (omega (arith, c .before .room .ensures)))
 
 case-at-requires : tie.Need-case-at-requires
 case-at-requires c κs = search needs
@@ -31,7 +32,7 @@ array-borrow-prefix-out-2 : tie.Need-array-borrow-prefix-out-2
 array-borrow-prefix-out-2 c = search needs
 
 slice-aggregate-case-send : tie.Need-slice-aggregate-case-send
-slice-aggregate-case-send c = sym (length-take-le _ (replicate 64 255) (c .before .room2 .ensures))
+slice-aggregate-case-send c = sym (length-take-le _ (replicate 64 255) (omega (arith, c .before .room2 .ensures)))
 
 case-send-requires : tie.Need-case-send-requires
 case-send-requires c κs = search needs
