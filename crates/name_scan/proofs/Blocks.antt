@@ -10,8 +10,10 @@ use borrow.Author.Tests.{eqb-true, eqb-false, ltb-true, ltb-false}
 use lib.Dec.{eqb, ltb}
 use lib.ListN.{length, getD, set}
 use lib.Seq.{getD-set-same, getD-set-other}
-use Rattle.name_scan.specs.Marks.{AllSettled, Listed, counted, StartsListed, BlocksListed, Plain}
-use Rattle.name_scan.proofs.Places.{each-none, each-to, each-in, each-join, settled-startless}
+use Rattle.name_places.specs.Marks.{AllSettled}
+use Rattle.name_scan.specs.Blocks.{Listed, counted, StartsListed, BlocksListed, Plain}
+use Rattle.name_places.proofs.Places.{each-none, each-to, each-in, each-join}
+use Rattle.name_scan.proofs.Starts.{settled-startless}
 
 module _ {F : ℕ → Type 0} {l : List ℕ} where
   pub listed-none : Listed F l 0 0

@@ -1,3 +1,2 @@
-mod Places
+mod Starts
 mod Blocks
-mod Marking

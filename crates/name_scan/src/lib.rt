@@ -1,13 +1,15 @@
-// Scans a termcap database for places behind which an asked name may stand, in blocks of 48 bytes. It passes over all blocks in which no
-// name can start. In the others it looks where a name may have the asked length, measures it there, and compares bytes only of a name
-// that has it.
-use lines::is_name;
+// Scans a termcap database for an asked name, in blocks of 48 bytes. It passes over all blocks in which no name can start, then over all
+// parts of the others in which no name can have the asked length.
+use name_places::hit_by_places;
+use name_places::hit_in_part;
+use name_places::is_between;
+use name_places::is_cut;
 ghost use Prim.Native.Nat.{ℕ, _+_, _*_, _≤_, _<_};
 ghost use mathlib.Core.Bool.{true, false};
 ghost use mathlib.Core.Path.{_≡_};
-ghost use mathlib.Core.Logic.{_⊎_};
-ghost use lib.ListN.{length, getD, set};
-ghost use Rattle.name_scan.specs.Marks.{Separator, Alone, Ending, Stop, Stops, Spelled, Whole, Settled, AllSettled, Passed, Start, Startless, Plain, Listed, counted, StartsListed, BlocksListed, markOf, Marked, Measured, pickOf};
+ghost use lib.ListN.{length, set};
+ghost use Rattle.name_places.specs.Marks.{AllSettled, Passed};
+ghost use Rattle.name_scan.specs.Blocks.{Start, Startless, Plain, Listed, counted, StartsListed, BlocksListed};
 
 // ---- where a name can start
 
@@ -152,22 +154,6 @@ fn list_for(s: &[u8], at: usize, n: usize, name: &[u8], plain: bool, list: &mut 
 
 // ---- where a name may have the asked length
 
-// Whether a name may stand between two bytes, behind the newline of no pair. A backslash may follow it, as the first byte of a pair.
-fn is_between(before: u8, separator: u8, behind: u8) -> bool
-    ensures { λ r. ⌜ (r ≡ false → Separator separator → Alone before separator → Stop behind → ⊥) ⌝ }
-    ensures { λ r. ⌜ (r ≡ true → Separator separator) ⌝ }
-{
-    ((separator == 124) | ((separator == 10) & (before != 92)))
-        & ((behind == 10) | (behind == 58) | (behind == 92) | (behind == 124))
-}
-
-// Whether the last of three bytes is a newline that vanishes among the names of its line: after a backslash, and no colon before that.
-fn is_cut(earlier: u8, before: u8, newline: u8) -> bool
-    ensures { λ r. ⌜ (r ≡ false → newline ≡ 10 → before ≡ 92 → (earlier ≡ 58 → ⊥) → ⊥) ⌝ }
-{
-    (newline == 10) & (before == 92) & (earlier != 58)
-}
-
 // Whether one of the 16 places from `at` on may have a name of the asked length behind it, or be where one is cut. No branch is left in
 // it either.
 fn any_fit(s: &[u8], at: usize, name: &[u8]) -> bool
@@ -238,205 +224,7 @@ fn list_parts(
     m
 }
 
-// ---- which name has it, and may be the asked one
-
-// The higher of two marks.
-fn higher(a: u8, b: u8) -> u8
-    ensures { λ r. ⌜ a ≤ r ⌝ }
-    ensures { λ r. ⌜ b ≤ r ⌝ }
-    ensures { λ r. ⌜ (r ≡ a) ⊎ (r ≡ b) ⌝ }
-{
-    if a < b {
-        return b;
-    }
-    a
-}
-
-// The mark of a place.
-fn mark_of(cut: bool, fits: bool, number: u8) -> u8
-    ensures { λ r. ⌜ r ≡ markOf cut fits number ⌝ }
-{
-    if cut {
-        return 64;
-    }
-    if fits {
-        return number;
-    }
-    0
-}
-
-// The last and the first of 16 places where a name may have the asked length, as the highest of their marks.
-struct PlaceMarks {
-    high: u8,
-    low: u8,
-}
-
-fn mark_places(s: &[u8], at: usize, name: &[u8]) -> PlaceMarks
-    requires { ⌜ at + 18 + length (now name) < length (now s) ⌝ }
-    ensures { λ r. ⌜ Marked (now (s .entry)) (now (name .entry)) at 16 (r .high) (r .low) ⌝ }
-{
-    let size = name.len();
-    let mut high = 0;
-    let mut low = 0;
-    let mut k: u8 = 0;
-    while k < 16 {
-        let i = at + (k as usize);
-        let fits = is_between(s[i + 1], s[i + 2], s[i + 3 + size]);
-        let cut = is_cut(s[i], s[i + 1], s[i + 2]);
-        high = higher(high, mark_of(cut, fits, k + 1));
-        low = higher(low, mark_of(false, fits, 16 - k));
-        k += 1;
-    }
-    PlaceMarks {
-        high: high,
-        low: low,
-    }
-}
-
-// Whether a byte ends a name.
-fn is_ending(b: u8) -> bool
-    ensures { λ r. ⌜ (r ≡ true → Ending b) ⌝ }
-    ensures { λ r. ⌜ (r ≡ false → Ending b → ⊥) ⌝ }
-{
-    (b == 10) | (b == 58) | (b == 124)
-}
-
-// How many bytes a name has that stands at a place with no pair in it, up to 32.
-fn measure(s: &[u8], at: usize) -> u8
-    requires { ⌜ at + 32 ≤ length (now s) ⌝ }
-    ensures { λ r. ⌜ Measured (now (s .entry)) at r ⌝ }
-{
-    let mut far = 0;
-    let mut k: u8 = 0;
-    while k < 32 {
-        let ending = is_ending(s[at + (k as usize)]);
-        far = higher(far, mark_of(false, ending, 32 - k));
-        k += 1;
-    }
-    32 - far
-}
-
-// One of two places.
-fn pick(held: bool, place: usize, other: usize) -> usize
-    ensures { λ r. ⌜ r ≡ pickOf held place other ⌝ }
-{
-    if held {
-        return place;
-    }
-    other
-}
-
-// Whether the name at a place may be the asked one. It is measured first: if it has another length, the separator before it stands for
-// its bytes, and none of them is compared. So there is no branch, which would often be guessed wrongly. A backslash at the name's end, or
-// behind it, may belong to a pair, and then its length is open.
-fn is_like(s: &[u8], at: usize, name: &[u8]) -> bool
-    requires { ⌜ 0 < length (now name) ⌝ }
-    requires { ⌜ 0 < at ⌝ }
-    requires { ⌜ at + 32 ≤ length (now s) ⌝ }
-    requires { ⌜ at + length (now name) < length (now s) ⌝ }
-    ensures { λ r. ⌜ (r ≡ false → Spelled (now (s .entry)) (now (name .entry)) at → Whole (now (s .entry)) at (at + length (now (name .entry))) → ⊥) ⌝ }
-{
-    let size = name.len();
-    if size > 32 {
-        return true;
-    }
-    let whole = size <= (measure(s, at) as usize);
-    let last = s[pick(whole, at + size - 1, at - 1)];
-    let behind = s[pick(whole, at + size, at - 1)];
-    let open = (last == 92) | (behind == 92);
-    let sure = whole & !open;
-    let start = s[pick(sure, at, at - 1)];
-    let end = s[pick(sure, at + size - 1, at - 1)];
-    open | ((start == name[0]) & (end == name[size - 1]))
-}
-
-// Whether one of the 16 places from `at` on may be a hit. Of those where a name may have the asked length, the last one is looked at: an
-// earlier one is so near that this one's separator ends its name before, or all have to be looked at.
-fn any_mark(s: &[u8], at: usize, name: &[u8]) -> bool
-    requires { ⌜ 0 < length (now name) ⌝ }
-    requires { ⌜ at + 50 + length (now name) ≤ length (now s) ⌝ }
-    ensures { λ r. ⌜ (r ≡ false → AllSettled (now (s .entry)) (now (name .entry)) at (at + 16)) ⌝ }
-{
-    let marks = mark_places(s, at, name);
-    let high = marks.high as usize;
-    let low = marks.low as usize;
-    if high == 0 {
-        return false;
-    }
-    if high > 16 {
-        return true;
-    }
-    if high + low > name.len() + 17 {
-        return true;
-    }
-    is_like(s, at + high + 2, name)
-}
-
 // ---- hits
-
-// Whether a name of `size` bytes may stand behind the separator before a place.
-fn is_long(s: &[u8], at: usize, size: usize) -> bool
-    requires { ⌜ at ≤ length (now s) ⌝ }
-    ensures { λ r. ⌜ (r ≡ false → Stops (now (s .entry)) (at + size) → ⊥) ⌝ }
-{
-    if size < s.len() - at {
-        return match s[at + size] {
-            10 | 58 | 92 | 124 => true,
-            _ => false,
-        };
-    }
-    true
-}
-
-// Whether the line of a place has to be looked at: the name may be cut there, or it stands behind the separator.
-fn is_hit(s: &[u8], at: usize, name: &[u8]) -> bool
-    requires { ⌜ at + 2 < length (now s) ⌝ }
-    ensures { λ r. ⌜ (r ≡ false → Settled (now (s .entry)) (now (name .entry)) at) ⌝ }
-{
-    let separator = s[at + 2];
-    match separator {
-        10 | 124 => {
-            if is_cut(s[at], s[at + 1], separator) {
-                return true;
-            }
-            if is_long(s, at + 3, name.len()) {
-                return is_name(s, at + 3, name);
-            }
-            false
-        }
-        _ => false,
-    }
-}
-
-// The first hit from `at` on and before `stop`, or `stop`.
-fn first_hit(s: &[u8], at: usize, stop: usize, name: &[u8]) -> usize
-    requires { ⌜ at ≤ stop ⌝ }
-    requires { ⌜ stop + 2 ≤ length (now s) ⌝ }
-    ensures { λ r. ⌜ r ≤ stop ⌝ }
-    ensures { λ r. ⌜ Passed (now (s .entry)) (now (name .entry)) at r ⌝ }
-{
-    let mut i = at;
-    while i < stop {
-        if is_hit(s, i, name) {
-            return i;
-        }
-        i += 1;
-    }
-    i
-}
-
-// The first hit of the 16 places from `at` on, or the place behind them.
-fn hit_in_part(s: &[u8], at: usize, name: &[u8]) -> usize
-    requires { ⌜ 0 < length (now name) ⌝ }
-    requires { ⌜ at + 50 + length (now name) ≤ length (now s) ⌝ }
-    ensures { λ r. ⌜ r ≤ at + 16 ⌝ }
-    ensures { λ r. ⌜ Passed (now (s .entry)) (now (name .entry)) at r ⌝ }
-{
-    if any_mark(s, at, name) {
-        return first_hit(s, at, at + 16, name);
-    }
-    at + 16
-}
 
 // The first hit of the `n` blocks from `at` on, or the place behind them; only the listed parts may have one.
 fn hit_in_parts(s: &[u8], at: usize, n: usize, name: &[u8], parts: &[u16], count: usize) -> usize
@@ -539,7 +327,7 @@ fn hit_by_stretches(
         n = next_count(n);
         i = found;
     }
-    first_hit(s, i, len - 2, name)
+    hit_by_places(s, i, name)
 }
 
 // The first hit from `at` on, or the last place but two. An empty name has no length to look for. The lists, of 256 and 768 numbers, are

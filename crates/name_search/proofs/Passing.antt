@@ -14,7 +14,7 @@ use Rattle.spec.specs.Lines.{Text, byte, textAt, lineText, laterLines, firstNam
 use Rattle.spec.specs.Lists.{upto, laterPieces, same, among}
 use Rattle.spec.proofs.TextSteps as Laws
 use Rattle.spec.proofs.TextSteps.{rest}
-use Rattle.name_scan.specs.Marks.{Separator, Alone, Ending, Stops, Inside, AllSettled, Other}
+use Rattle.name_places.specs.Marks.{Separator, Alone, Ending, Stops, Inside, AllSettled, Other}
 use Rattle.name_search.specs.Candidates.{Closes, LineOf, Candidate}
 use Rattle.name_search.proofs.LineEnds.{Apart, none-behind, next-behind}
 use Rattle.name_search.proofs.Looking.{Pair, Look, over, pair, one, look}

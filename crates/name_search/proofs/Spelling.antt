@@ -13,7 +13,7 @@ use Rattle.spec.specs.Lines.{Text, end, byte, textAt, lineText, firstName}
 use Rattle.spec.specs.Lists.{upto, same}
 use Rattle.spec.proofs.TextSteps as Laws
 use Rattle.spec.proofs.TextSteps.{rest}
-use Rattle.name_scan.specs.Marks.{Ending}
+use Rattle.name_places.specs.Marks.{Ending}
 use Rattle.name_search.proofs.Looking.{Pair, Look, over, pair, one, look}
 
 pub is-ending : (b : ℕ) → Ending b ⊎ (Ending b → ⊥)

@@ -4,8 +4,9 @@ use Prim.Native.Nat.{_+_, _≤_, _-_}
 use mathlib.Core.Bool.{false, _||_}
 use mathlib.Core.Path.{_≡_}
 use native.Mathlib.Omega.{arith}
-use Rattle.name_scan.proofs.Places.{or-left, or-right, each-none, each-to, each-one, settled-unfit}
-use Rattle.name_scan.specs.Marks.{AllSettled}
+use Rattle.name_places.proofs.Places.{or-left, or-right, each-none, each-to, each-one}
+use Rattle.name_scan.proofs.Starts.{settled-unfit}
+use Rattle.name_places.specs.Marks.{AllSettled}
 use Rattle.name_scan.proofs.any_fit.Statement.{statement}
 use Rattle.name_scan.proofs.any_fit.Tie as tie
 

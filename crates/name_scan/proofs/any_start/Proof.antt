@@ -4,8 +4,8 @@ use Prim.Native.Nat.{_+_, _≤_, _-_}
 use mathlib.Core.Path.{_≡_}
 use mathlib.Core.Bool.{false}
 use native.Mathlib.Omega.{arith}
-use Rattle.name_scan.specs.Marks.{Startless}
-use Rattle.name_scan.proofs.Places.{or-left, or-right, each-none, each-to, each-one}
+use Rattle.name_scan.specs.Blocks.{Startless}
+use Rattle.name_places.proofs.Places.{or-left, or-right, each-none, each-to, each-one}
 use Rattle.name_scan.proofs.any_start.Statement.{statement}
 use Rattle.name_scan.proofs.any_start.Tie as tie
 

@@ -4,8 +4,8 @@ use Prim.Native.Nat.{_-_, _≤_, _<_}
 use lib.ListN.{length}
 use mathlib.Core.Path.{_≡_, refl}
 use native.Mathlib.Omega.{arith}
-use Rattle.name_scan.proofs.Places.{passed-none, passed-join}
-use Rattle.name_scan.specs.Marks.{Passed}
+use Rattle.name_places.proofs.Places.{passed-none, passed-join}
+use Rattle.name_places.specs.Marks.{Passed}
 use Rattle.name_scan.proofs.hit_by_stretches.Statement.{statement}
 use Rattle.name_scan.proofs.hit_by_stretches.Tie as tie
 
@@ -72,11 +72,8 @@ loop-again c =
     let l = c .before .before .before .before .before .before .before .before .before .before .before .loop in
     (omega (arith, l .inv .0), omega (arith, l .inv .1), omega arith, omega arith, passed-join (l .inv .4) (p .1))
 
-sub-first-hit : tie.Need-sub-first-hit Inv-loop μ-loop
-sub-first-hit c = omega arith
-
-first-hit-requires : tie.Need-first-hit-requires Inv-loop μ-loop
-first-hit-requires c κs = (omega arith, omega arith)
+hit-by-places-requires : tie.Need-hit-by-places-requires Inv-loop μ-loop
+hit-by-places-requires c κs = tt
 
 same-length-3 : tie.Need-same-length-3 Inv-loop μ-loop
 same-length-3 c = omega (arith, c .before .before .loop .inv .0, c .before .before .before .before .before .before .before .before .pre .1 .1 .0)
@@ -85,7 +82,7 @@ same-length-4 : tie.Need-same-length-4 Inv-loop μ-loop
 same-length-4 c = omega (arith, c .before .before .loop .inv .1, c .before .before .before .before .before .before .before .before .pre .1 .1 .1)
 
 returns-2 : tie.Need-returns-2 Inv-loop μ-loop
-returns-2 c = passed-join (c .before .before .loop .inv .4) (c .first-hit .ensures .1)
+returns-2 c = passed-join (c .before .before .loop .inv .4) (c .hit-by-places .ensures (omega arith))
 
 pub hit-by-stretches-spec : {M : Type 1} → statement M
 hit-by-stretches-spec =
@@ -109,8 +106,7 @@ hit-by-stretches-spec =
     next-count-requires
     loop-less
     loop-again
-    sub-first-hit
-    first-hit-requires
+    hit-by-places-requires
     same-length-3
     same-length-4
     returns-2)

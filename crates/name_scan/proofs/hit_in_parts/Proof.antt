@@ -4,9 +4,9 @@ use Prim.Native.Nat.{ℕ, _+_, _*_, _≤_, _<_, _-_}
 use borrow.Author.Count.{below-more}
 use lib.ListN.{getD}
 use native.Mathlib.Omega.{arith}
+use Rattle.name_places.proofs.Places.{each-to, passed-join}
+use Rattle.name_places.specs.Marks.{AllSettled}
 use Rattle.name_scan.proofs.Blocks.{settled-before, settled-all}
-use Rattle.name_scan.proofs.Places.{each-to, passed-join}
-use Rattle.name_scan.specs.Marks.{AllSettled}
 use Rattle.name_scan.proofs.hit_in_parts.Statement.{statement}
 use Rattle.name_scan.proofs.hit_in_parts.Tie as tie
 
@@ -35,10 +35,13 @@ add-i : tie.Need-add-i Inv-loop μ-loop
 add-i c = let w = c .before .before .before .before .before .before .pre .1 .1 .1 .1 .below (c .before .before .loop .c) (omega arith) in omega arith
 
 hit-in-part-requires : tie.Need-hit-in-part-requires Inv-loop μ-loop
-hit-in-part-requires c κs = let w = c .before .before .before .before .before .before .pre .1 .1 .1 .1 .below (c .before .before .loop .c) (omega arith) in (omega arith, omega arith)
+hit-in-part-requires c κs = tt
 
 sub-if1 : tie.Need-sub-if1 Inv-loop μ-loop
-sub-if1 c = let p = c .hit-in-part .ensures .1 .from in omega arith
+sub-if1 c =
+    let w = c .before .before .before .before .before .before .before .pre .1 .1 .1 .1 .below (c .before .before .before .loop .c) (omega arith) in
+    let p = c .hit-in-part .ensures (omega arith) (omega arith) .1 .from in
+    omega arith
 
 returns : tie.Need-returns Inv-loop μ-loop
 returns c =
@@ -46,7 +49,7 @@ returns c =
     let x = start .pre .1 .1 .1 .1 in
     let l = c .before .before .before .before .loop in
     let w = x .below (l .c) (omega arith) in
-    let p = c .before .hit-in-part .ensures in
+    let p = c .before .hit-in-part .ensures (omega arith) (omega arith) in
     (omega arith, passed-join (record { from = omega arith; inside = omega arith; settled = settled-before _ _ (start .args .at) _ _ _ x (l .c) (omega arith) (l .inv .1) }) (p .1))
 
 add-c : tie.Need-add-c Inv-loop μ-loop
@@ -57,7 +60,8 @@ loop-less c = omega arith
 
 loop-again : tie.Need-loop-again Inv-loop μ-loop
 loop-again c =
-    let p = c .before .hit-in-part .ensures .1 in
+    let w = c .before .before .before .before .before .before .before .before .pre .1 .1 .1 .1 .below (c .before .before .before .before .loop .c) (omega arith) in
+    let p = c .before .hit-in-part .ensures (omega arith) (omega arith) .1 in
     let q = p .from in
     (omega arith, below-more _ _ (c .before .before .before .before .loop .inv .1) (each-to _ (p .settled) (omega arith)))
 

@@ -5,8 +5,8 @@ use mathlib.Core.Bool.{true≢false}
 use mathlib.Core.Path.{sym}
 use native.Mathlib.Omega.{arith}
 use lib.ListN.{length, getD}
-use Rattle.name_scan.specs.Marks.{Each}
-use Rattle.name_scan.proofs.Places.{each-none, each-one, each-to}
+use Rattle.name_places.specs.Marks.{Each}
+use Rattle.name_places.proofs.Places.{each-none, each-one, each-to}
 use Rattle.name_scan.proofs.is_plain.Statement.{statement}
 use Rattle.name_scan.proofs.is_plain.Tie as tie
 

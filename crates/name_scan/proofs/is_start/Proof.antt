@@ -1,6 +1,6 @@
 -- `name_scan::is_start` meets its contract.
 -- Assumes nothing.
-use Rattle.name_scan.proofs.Places.{not-start}
+use Rattle.name_scan.proofs.Starts.{not-start}
 use Rattle.name_scan.proofs.is_start.Statement.{statement}
 use Rattle.name_scan.proofs.is_start.Tie as tie
 

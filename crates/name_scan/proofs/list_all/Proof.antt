@@ -6,7 +6,7 @@ use mathlib.Core.Bool.{true, true≢false}
 use mathlib.Core.Path.{_≡_}
 use native.Mathlib.Omega.{arith}
 use Rattle.name_scan.proofs.Blocks.{listed-none, listed-note}
-use Rattle.name_scan.specs.Marks.{Listed}
+use Rattle.name_scan.specs.Blocks.{Listed}
 use Rattle.name_scan.proofs.list_all.Statement.{statement}
 use Rattle.name_scan.proofs.list_all.Tie as tie
 

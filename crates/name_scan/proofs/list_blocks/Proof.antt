@@ -5,7 +5,7 @@ use lib.ListN.{length}
 use mathlib.Core.Path.{_≡_}
 use native.Mathlib.Omega.{arith}
 use Rattle.name_scan.proofs.Blocks.{listed-none}
-use Rattle.name_scan.specs.Marks.{StartsListed}
+use Rattle.name_scan.specs.Blocks.{StartsListed}
 use Rattle.name_scan.proofs.list_blocks.Statement.{statement}
 use Rattle.name_scan.proofs.list_blocks.Tie as tie
 

@@ -5,8 +5,8 @@ use borrow.Author.Needs.{needs}
 use mathlib.Core.Path.{_≡_}
 use native.Mathlib.Omega.{arith}
 use Rattle.name_scan.proofs.Blocks.{noted, counted-most}
-use Rattle.name_scan.proofs.Places.{each-in}
-use Rattle.name_scan.specs.Marks.{StartsListed}
+use Rattle.name_places.proofs.Places.{each-in}
+use Rattle.name_scan.specs.Blocks.{StartsListed}
 use Rattle.name_scan.proofs.list_four.Statement.{statement}
 use Rattle.name_scan.proofs.list_four.Tie as tie
 

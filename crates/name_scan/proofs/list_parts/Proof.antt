@@ -5,7 +5,7 @@ use lib.ListN.{length, getD}
 use mathlib.Core.Path.{_≡_}
 use native.Mathlib.Omega.{arith}
 use Rattle.name_scan.proofs.Blocks.{listed-none, Reached, reached-none, reached-more, rising-from, parts-to}
-use Rattle.name_scan.specs.Marks.{BlocksListed}
+use Rattle.name_scan.specs.Blocks.{BlocksListed}
 use Rattle.name_scan.proofs.list_parts.Statement.{statement}
 use Rattle.name_scan.proofs.list_parts.Tie as tie
 

@@ -5,8 +5,8 @@ use lib.ListN.{length}
 use mathlib.Core.Path.{_≡_, refl}
 use native.Mathlib.Omega.{arith}
 use Rattle.name_scan.proofs.Blocks.{noted}
-use Rattle.name_scan.proofs.Places.{each-in}
-use Rattle.name_scan.specs.Marks.{StartsListed}
+use Rattle.name_places.proofs.Places.{each-in}
+use Rattle.name_scan.specs.Blocks.{StartsListed}
 use Rattle.name_scan.proofs.list_rest.Statement.{statement}
 use Rattle.name_scan.proofs.list_rest.Tie as tie
 

@@ -5,7 +5,7 @@ use borrow.Author.Needs.{needs}
 use mathlib.Core.Path.{_≡_, refl}
 use native.Mathlib.Omega.{arith}
 use Rattle.name_scan.proofs.Blocks.{noted, counted-most}
-use Rattle.name_scan.proofs.Places.{each-in}
+use Rattle.name_places.proofs.Places.{each-in}
 use Rattle.name_scan.proofs.list_three.Statement.{statement}
 use Rattle.name_scan.proofs.list_three.Tie as tie
 

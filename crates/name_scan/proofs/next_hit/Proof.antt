@@ -2,7 +2,7 @@
 -- Assumes nothing.
 use borrow.Author.Needs.{needs}
 use mathlib.Core.Path.{refl}
-use Rattle.name_scan.proofs.Places.{passed-none}
+use Rattle.name_places.proofs.Places.{passed-none}
 use Rattle.name_scan.proofs.next_hit.Statement.{statement}
 use Rattle.name_scan.proofs.next_hit.Tie as tie
 

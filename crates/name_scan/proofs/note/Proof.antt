@@ -3,7 +3,7 @@
 use borrow.Author.Needs.{needs}
 use mathlib.Core.Bool.{Bool}
 use mathlib.Core.Path.{refl, sym, ap}
-use Rattle.name_scan.specs.Marks.{counted}
+use Rattle.name_scan.specs.Blocks.{counted}
 use Rattle.name_scan.proofs.note.Statement.{statement}
 use Rattle.name_scan.proofs.note.Tie as tie
 

@@ -1,0 +1,59 @@
+-- Places that are settled because no plain name starts there, or none can have the asked length.
+-- Assumes nothing.
+use Prim.Native.Nat.{ℕ, _+_, _-_, _≤_, _<_}
+use mathlib.Core.Path.{_≡_, sym}
+use mathlib.Core.Bool.{Bool, false, _&&_, _||_, true≢false}
+use mathlib.Core.List.{List}
+use mathlib.Core.Logic.{inl, inr, ⊎-elim}
+use native.Mathlib.Omega.{arith}
+use borrow.Author.Tests.{le-leb, lt-ltb}
+use lib.Dec.{eqb, leb, ltb}
+use lib.ListN.{length, getD}
+use Rattle.name_places.specs.Marks.{Separator, Alone, Stop, Spelled, Inside, Fits, Settled, AllSettled}
+use Rattle.name_places.proofs.Places.{or-left, or-right, separator-true}
+use Rattle.name_scan.specs.Blocks.{Start, Startless, Plain}
+
+pub not-start : (b c : ℕ) → ((eqb b 10 || eqb b 124) && (leb 36 c && ltb c 128)) ≡ false → Start b c → ⊥
+not-start b c e x = true≢false (rw (separator-true b (x .0), le-leb 36 c (x .1), lt-ltb c 128 (x .2)) at e)
+
+-- ---- a place is settled
+
+-- where no plain name starts
+inside-plain : (n : List ℕ) (b : ℕ) → Plain n → Inside n b → (36 ≤ b) × (b < 128)
+inside-plain n b plain (inl x) =
+    let w = plain .holds (x .0) (omega arith) (x .1) in
+    rw (← x .2) w
+inside-plain n b plain (inr e) = (omega arith, omega arith)
+
+module _ (s n : List ℕ) (plain : Plain n) (some : 0 < length n) where
+  settled-start : (k : ℕ) → (Start (getD s (k + 2) 0) (getD s (k + 2 + 1) 0) → ⊥) → Settled s n k
+  settled-start k none =
+      record { uncut = λ x y z w. start (inl x) w; other = λ x y z. absurd (start (x .separator) (inl (0, some, sym (first y)))) }
+    where
+      start : Separator (getD s (k + 2) 0) → Inside n (getD s (k + 3) 0) → ⊥
+      start x w =
+          let next : k + 3 ≡ k + 2 + 1 = omega arith in
+          let r = rw next at (inside-plain n (getD s (k + 3) 0) plain w) in
+          none (x, r .0, r .1)
+
+      first : Spelled s n (k + 3) → getD s (k + 3) 0 ≡ getD n 0 0
+      first y =
+          let same : k + 3 + 0 ≡ k + 3 = omega arith in
+          rw same at (y 0 some)
+
+  pub settled-startless : {a b : ℕ} (c : ℕ) → Startless s c b → c ≡ a + 2 → AllSettled s n a (b - 2)
+  settled-startless {a} {b} c x e = record { holds = λ k l m. settled-start k (x .holds (k + 2) (omega arith) (omega arith)) }
+
+-- where the tests of `any_fit` fail
+pub settled-unfit :
+    (s n : List ℕ) (k : ℕ) (fits cut : Bool)
+    → k + 3 + length n < length s
+    → (fits ≡ false → Separator (getD s (k + 2) 0) → Alone (getD s (k + 1) 0) (getD s (k + 2) 0) → Stop (getD s (k + 3 + length n) 0) → ⊥)
+    → (cut ≡ false → getD s (k + 2) 0 ≡ 10 → getD s (k + 1) 0 ≡ 92 → (getD s k 0 ≡ 58 → ⊥) → ⊥)
+    → (fits || cut) ≡ false
+    → Settled s n k
+settled-unfit s n k fits cut h f c e =
+    record {
+      uncut = λ x y z w. c (or-right fits cut e) x y z;
+      other = λ x y z. absurd (⊎-elim (λ w. f (or-left fits cut e) (x .separator) (x .alone) w) (λ w. omega arith) (x .stops));
+    }
