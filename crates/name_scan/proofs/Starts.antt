@@ -9,7 +9,7 @@ use native.Mathlib.Omega.{arith}
 use borrow.Author.Tests.{le-leb, lt-ltb}
 use lib.Dec.{eqb, leb, ltb}
 use lib.ListN.{length, getD}
-use Rattle.name_places.specs.Marks.{Separator, Alone, Stop, Spelled, Inside, Fits, Settled, AllSettled}
+use Rattle.name_places.specs.Marks.{Separator, Alone, Stop, Spelled, Inside, Settled, AllSettled}
 use Rattle.name_places.proofs.Places.{or-left, or-right, separator-true}
 use Rattle.name_scan.specs.Blocks.{Start, Startless, Plain}
 

@@ -1,12 +1,11 @@
 -- `name_scan::list_four` meets its contract: each of the four is listed, or has no start.
 -- Assumes nothing.
-use Prim.Native.Nat.{_+_, _*_}
+use Prim.Native.Nat.{_+_}
 use borrow.Author.Needs.{needs}
 use mathlib.Core.Path.{_≡_}
 use native.Mathlib.Omega.{arith}
 use Rattle.name_scan.proofs.Blocks.{noted, counted-most}
 use Rattle.name_places.proofs.Places.{each-in}
-use Rattle.name_scan.specs.Blocks.{StartsListed}
 use Rattle.name_scan.proofs.list_four.Statement.{statement}
 use Rattle.name_scan.proofs.list_four.Tie as tie
 
