@@ -7,6 +7,7 @@ use mathlib.Core.List.{List}
 use mathlib.Core.Logic.{inl, inr}
 use native.Mathlib.Omega.{arith}
 use borrow.Author.Tests.{eq-eqb, ne-eqb, eqb-true, eqb-false, ltb-true, ltb-false}
+use lib.Bits.{bitAnd, bitOr}
 use lib.Dec.{eqb, ltb}
 use lib.ListN.{length}
 use Rattle.name_places.specs.Marks.{Separator, Alone, Ending, Stop, Settled, Each, Passed}
@@ -25,18 +26,18 @@ pub separator-true : (b : ℕ) → Separator b → (eqb b 10 || eqb b 124) ≡ t
 separator-true b (inl e) = rw e
 separator-true b (inr e) = rw e
 
-stop-true : (b : ℕ) → Stop b → (((eqb b 10 || eqb b 58) || eqb b 92) || eqb b 124) ≡ true
-stop-true b (inl e) = rw e
-stop-true b (inr (inl e)) = rw e
-stop-true b (inr (inr (inl e))) = rw e
-stop-true b (inr (inr (inr e))) = rw e
+pub not-stop : (b : ℕ) → (eqb (bitAnd b 207) 10 || eqb (bitOr b 32) 124) ≡ false → Stop b → ⊥
+not-stop b e (inl x) = true≢false (rw x at e)
+not-stop b e (inr (inl x)) = true≢false (rw x at e)
+not-stop b e (inr (inr (inl x))) = true≢false (rw x at e)
+not-stop b e (inr (inr (inr x))) = true≢false (rw x at e)
 
 alone-true : (a b : ℕ) → Separator b → Alone a b → (eqb b 124 || (eqb b 10 && not (eqb a 92))) ≡ true
 alone-true a b (inl e) h = rw (e, ne-eqb a 92 (h e))
 alone-true a b (inr e) h = rw e
 
-pub not-between : (a b c : ℕ) → ((eqb b 124 || (eqb b 10 && not (eqb a 92))) && (((eqb c 10 || eqb c 58) || eqb c 92) || eqb c 124)) ≡ false → Separator b → Alone a b → Stop c → ⊥
-not-between a b c e x y z = true≢false (rw (alone-true a b x y, stop-true c z) at e)
+pub not-between : (a b : ℕ) (stop : Bool) → ((eqb b 124 || (eqb b 10 && not (eqb a 92))) && stop) ≡ false → Separator b → Alone a b → stop ≡ false
+not-between a b stop e x y = rw (alone-true a b x y) at e
 
 and-left : (x y : Bool) → (x && y) ≡ true → x ≡ true
 and-left true y e = refl

@@ -1,8 +1,8 @@
 -- Places that are settled because no plain name starts there, or none can have the asked length.
 -- Assumes nothing.
 use Prim.Native.Nat.{ℕ, _+_, _-_, _≤_, _<_}
-use mathlib.Core.Path.{_≡_, sym}
-use mathlib.Core.Bool.{Bool, false, _&&_, _||_, true≢false}
+use mathlib.Core.Path.{_≡_, refl, sym}
+use mathlib.Core.Bool.{Bool, true, false, _&&_, _||_, true≢false}
 use mathlib.Core.List.{List}
 use mathlib.Core.Logic.{inl, inr, ⊎-elim}
 use native.Mathlib.Omega.{arith}
@@ -10,11 +10,22 @@ use borrow.Author.Tests.{le-leb, lt-ltb}
 use lib.Dec.{eqb, leb, ltb}
 use lib.ListN.{length, getD}
 use Rattle.name_places.specs.Marks.{Separator, Alone, Stop, Spelled, Inside, Settled, AllSettled}
-use Rattle.name_places.proofs.Places.{or-left, or-right, separator-true}
+use Rattle.name_places.proofs.Places.{or-left, or-right}
 use Rattle.name_scan.specs.Blocks.{Start, Startless, Plain}
 
-pub not-start : (b c : ℕ) → ((eqb b 10 || eqb b 124) && (leb 36 c && ltb c 128)) ≡ false → Start b c → ⊥
-not-start b c e x = true≢false (rw (separator-true b (x .0), le-leb 36 c (x .1), lt-ltb c 128 (x .2)) at e)
+pub not-high : (l : ℕ) → (leb 117 l && ltb l 128) ≡ false → 117 ≤ l → l < 128 → ⊥
+not-high l e x y = true≢false (rw (le-leb 117 l x, lt-ltb l 128 y) at e)
+
+pub not-start :
+    (b c : ℕ) {l : ℕ} (high : Bool)
+    → (high ≡ false → 117 ≤ l → l < 128 → ⊥)
+    → (b ≡ 10 → l ≡ 127)
+    → (b ≡ 124 → l ≡ 117)
+    → (high && (leb 36 c && ltb c 128)) ≡ false
+    → Start b c
+    → ⊥
+not-start b c true h newline bar e x = true≢false (rw (le-leb 36 c (x .1), lt-ltb c 128 (x .2)) at e)
+not-start b c {l} false h newline bar e x = ⊎-elim (λ y. let z = newline y in h refl (omega arith) (omega arith)) (λ y. let z = bar y in h refl (omega arith) (omega arith)) (x .0)
 
 -- ---- a place is settled
 
@@ -40,6 +51,24 @@ module _ (s n : List ℕ) (plain : Plain n) (some : 0 < length n) where
       first y =
           let same : k + 3 + 0 ≡ k + 3 = omega arith in
           rw same at (y 0 some)
+
+  -- where the tests of `any_plain_fit` fail
+  pub settled-unended :
+      (k : ℕ) (start pair stop : Bool)
+      → k + 3 + length n < length s
+      → (start ≡ false → Start (getD s (k + 2) 0) (getD s (k + 3) 0) → ⊥)
+      → (pair ≡ false → getD s (k + 1) 0 ≡ 92 → ⊥)
+      → (stop ≡ false → Stop (getD s (k + 3 + length n) 0) → ⊥)
+      → (start && (pair || stop)) ≡ false
+      → Settled s n k
+  settled-unended k true pair stop h f g j e =
+      record {
+        uncut = λ x y z w. g (or-left pair stop e) y;
+        other = λ x y z. absurd (⊎-elim (λ w. j (or-right pair stop e) w) (λ w. omega arith) (x .stops));
+      }
+  settled-unended k false pair stop h f g j e =
+      let next : k + 3 ≡ k + 2 + 1 = omega arith in
+      settled-start k (rw next at (f refl))
 
   pub settled-startless : {a b : ℕ} (c : ℕ) → Startless s c b → c ≡ a + 2 → AllSettled s n a (b - 2)
   settled-startless {a} {b} c x e = record { holds = λ k l m. settled-start k (x .holds (k + 2) (omega arith) (omega arith)) }

@@ -4,6 +4,7 @@ use name_places::hit_by_places;
 use name_places::hit_in_part;
 use name_places::is_between;
 use name_places::is_cut;
+use name_places::is_stop;
 ghost use Prim.Native.Nat.{ℕ, _+_, _*_, _≤_, _<_};
 ghost use mathlib.Core.Bool.{true, false};
 ghost use mathlib.Core.Path.{_≡_};
@@ -31,11 +32,27 @@ fn is_plain(name: &[u8]) -> bool
     true
 }
 
+// The level of a byte: 127 for a newline, 117 for a bar. Only 0..7 and 125, which are rare, have levels between these.
+fn level(b: u8) -> u8
+    ensures { λ r. ⌜ (b ≡ 10 → r ≡ 127) ⌝ }
+    ensures { λ r. ⌜ (b ≡ 124 → r ≡ 117) ⌝ }
+{
+    std::num::wrapping_add_u8(b ^ 66, 55)
+}
+
+// Whether a byte has a level between those of a bar and of a newline: one comparison for both of them. It is a function of its own, since
+// together with the sum it would be compiled to two.
+fn is_high(level: u8) -> bool
+    ensures { λ r. ⌜ (r ≡ false → 117 ≤ level → level < 128 → ⊥) ⌝ }
+{
+    (117 <= level) & (level < 128)
+}
+
 // Whether a plain name may stand behind a byte, or be cut before the next one.
 fn is_start(b: u8, next: u8) -> bool
     ensures { λ r. ⌜ (r ≡ false → Start b next → ⊥) ⌝ }
 {
-    ((b == 10) | (b == 124)) & ((36 <= next) & (next < 128))
+    is_high(level(b)) & ((36 <= next) & (next < 128))
 }
 
 // Whether there is a start at one of the 48 places from `at` on. There is no branch in it, so that it compiles to comparisons of 16 bytes
@@ -71,9 +88,9 @@ fn note(keep: bool, number: usize, list: &mut [u16], count: usize) -> usize
 // Lists those of four blocks that have a start. All four are looked at before one is listed: the next look does not wait for a store
 // whose place is not known yet.
 fn list_four(s: &[u8], at: usize, k: usize, list: &mut [u16], count: usize) -> usize
-    requires { ⌜ k + 4 ≤ 256 ⌝ }
+    requires { ⌜ k + 4 ≤ 512 ⌝ }
     requires { ⌜ at + k * 48 + 192 < length (now s) ⌝ }
-    requires { ⌜ length (now list) ≡ 256 ⌝ }
+    requires { ⌜ length (now list) ≡ 512 ⌝ }
     requires { ⌜ StartsListed (now s) at (now list) count k ⌝ }
     ensures { λ r. ⌜ StartsListed (now (s .entry)) at (now (list .exit)) r (k + 4) ⌝ }
 {
@@ -91,9 +108,9 @@ fn list_four(s: &[u8], at: usize, k: usize, list: &mut [u16], count: usize) -> u
 // Lists those of the blocks from `k` on and before `n` that have a start.
 fn list_rest(s: &[u8], at: usize, k: usize, n: usize, list: &mut [u16], count: usize) -> usize
     requires { ⌜ k ≤ n ⌝ }
-    requires { ⌜ n ≤ 256 ⌝ }
+    requires { ⌜ n ≤ 512 ⌝ }
     requires { ⌜ at + n * 48 < length (now s) ⌝ }
-    requires { ⌜ length (now list) ≡ 256 ⌝ }
+    requires { ⌜ length (now list) ≡ 512 ⌝ }
     requires { ⌜ StartsListed (now s) at (now list) count k ⌝ }
     ensures { λ r. ⌜ StartsListed (now (s .entry)) at (now (list .exit)) r n ⌝ }
 {
@@ -109,9 +126,9 @@ fn list_rest(s: &[u8], at: usize, k: usize, n: usize, list: &mut [u16], count: u
 
 // Lists the blocks with a start, of the `n` from `at` on, and answers how many there are.
 fn list_blocks(s: &[u8], at: usize, n: usize, list: &mut [u16]) -> usize
-    requires { ⌜ n ≤ 256 ⌝ }
+    requires { ⌜ n ≤ 512 ⌝ }
     requires { ⌜ at + n * 48 < length (now s) ⌝ }
-    requires { ⌜ length (now list) ≡ 256 ⌝ }
+    requires { ⌜ length (now list) ≡ 512 ⌝ }
     ensures { λ r. ⌜ StartsListed (now (s .entry)) at (now (list .exit)) r n ⌝ }
 {
     let mut count = 0;
@@ -125,8 +142,8 @@ fn list_blocks(s: &[u8], at: usize, n: usize, list: &mut [u16]) -> usize
 
 // Lists all of `n` blocks.
 fn list_all(n: usize, list: &mut [u16]) -> usize
-    requires { ⌜ n ≤ 256 ⌝ }
-    requires { ⌜ length (now list) ≡ 256 ⌝ }
+    requires { ⌜ n ≤ 512 ⌝ }
+    requires { ⌜ length (now list) ≡ 512 ⌝ }
     ensures { λ r. ⌜ Listed (λ (j : ℕ). ⊥) (now (list .exit)) r n ⌝ }
 {
     let mut k = 0;
@@ -142,8 +159,8 @@ fn list_for(s: &[u8], at: usize, n: usize, name: &[u8], plain: bool, list: &mut 
     requires { ⌜ 0 < length (now name) ⌝ }
     requires { ⌜ at + n * 48 + 2 < length (now s) ⌝ }
     requires { ⌜ (plain ≡ true → Plain (now name)) ⌝ }
-    requires { ⌜ n ≤ 256 ⌝ }
-    requires { ⌜ length (now list) ≡ 256 ⌝ }
+    requires { ⌜ n ≤ 512 ⌝ }
+    requires { ⌜ length (now list) ≡ 512 ⌝ }
     ensures { λ r. ⌜ BlocksListed 48 (now (s .entry)) (now (name .entry)) at (now (list .exit)) r n ⌝ }
 {
     if plain {
@@ -172,25 +189,61 @@ fn any_fit(s: &[u8], at: usize, name: &[u8]) -> bool
     hit
 }
 
+// The same for a plain name, which is shorter: it stands only behind a start, and is cut only there, after a backslash.
+fn any_plain_fit(s: &[u8], at: usize, name: &[u8]) -> bool
+    requires { ⌜ 0 < length (now name) ⌝ }
+    requires { ⌜ at + 18 + length (now name) < length (now s) ⌝ }
+    requires { ⌜ Plain (now name) ⌝ }
+    ensures { λ r. ⌜ (r ≡ false → AllSettled (now (s .entry)) (now (name .entry)) at (at + 16)) ⌝ }
+{
+    let size = name.len();
+    let mut hit = false;
+    let mut k = 0;
+    while k < 16 {
+        let i = at + k;
+        let start = is_start(s[i + 2], s[i + 3]);
+        let ends = (s[i + 1] == 92) | is_stop(s[i + 3 + size]);
+        hit = hit | (start & ends);
+        k += 1;
+    }
+    hit
+}
+
+// One of the two tests.
+fn any_fit_for(s: &[u8], at: usize, name: &[u8], plain: bool) -> bool
+    requires { ⌜ 0 < length (now name) ⌝ }
+    requires { ⌜ at + 18 + length (now name) < length (now s) ⌝ }
+    requires { ⌜ (plain ≡ true → Plain (now name)) ⌝ }
+    ensures { λ r. ⌜ (r ≡ false → AllSettled (now (s .entry)) (now (name .entry)) at (at + 16)) ⌝ }
+{
+    if plain {
+        return any_plain_fit(s, at, name);
+    }
+    any_fit(s, at, name)
+}
+
 // Lists those of the three parts of a block, of 16 places each, where a name may have the asked length.
 fn list_three(
     s: &[u8],
     at: usize,
     name: &[u8],
+    plain: bool,
     block: usize,
     list: &mut [u16],
     count: usize,
 ) -> usize
-    requires { ⌜ block < 256 ⌝ }
+    requires { ⌜ 0 < length (now name) ⌝ }
     requires { ⌜ at + block * 48 + 50 + length (now name) < length (now s) ⌝ }
-    requires { ⌜ length (now list) ≡ 768 ⌝ }
+    requires { ⌜ (plain ≡ true → Plain (now name)) ⌝ }
+    requires { ⌜ block < 512 ⌝ }
+    requires { ⌜ length (now list) ≡ 1536 ⌝ }
     requires { ⌜ BlocksListed 16 (now s) (now name) at (now list) count (block * 3) ⌝ }
     ensures { λ r. ⌜ BlocksListed 16 (now (s .entry)) (now (name .entry)) at (now (list .exit)) r (block * 3 + 3) ⌝ }
 {
     let i = at + block * 48;
-    let a = any_fit(s, i, name);
-    let b = any_fit(s, i + 16, name);
-    let c = any_fit(s, i + 32, name);
+    let a = any_fit_for(s, i, name, plain);
+    let b = any_fit_for(s, i + 16, name, plain);
+    let c = any_fit_for(s, i + 32, name, plain);
     let k = block * 3;
     let one = note(a, k, list, count);
     let two = note(b, k + 1, list, one);
@@ -203,14 +256,17 @@ fn list_parts(
     at: usize,
     n: usize,
     name: &[u8],
+    plain: bool,
     blocks: &[u16],
     count: usize,
     list: &mut [u16],
 ) -> usize
+    requires { ⌜ 0 < length (now name) ⌝ }
     requires { ⌜ at + n * 48 + 2 + length (now name) < length (now s) ⌝ }
-    requires { ⌜ n ≤ 256 ⌝ }
-    requires { ⌜ length (now blocks) ≡ 256 ⌝ }
-    requires { ⌜ length (now list) ≡ 768 ⌝ }
+    requires { ⌜ (plain ≡ true → Plain (now name)) ⌝ }
+    requires { ⌜ n ≤ 512 ⌝ }
+    requires { ⌜ length (now blocks) ≡ 512 ⌝ }
+    requires { ⌜ length (now list) ≡ 1536 ⌝ }
     requires { ⌜ BlocksListed 48 (now s) (now name) at (now blocks) count n ⌝ }
     ensures { λ r. ⌜ BlocksListed 16 (now (s .entry)) (now (name .entry)) at (now (list .exit)) r (n * 3) ⌝ }
 {
@@ -218,7 +274,7 @@ fn list_parts(
     let mut c = 0;
     while c < count {
         let block = blocks[c] as usize;
-        m = list_three(s, at, name, block, list, m);
+        m = list_three(s, at, name, plain, block, list, m);
         c += 1;
     }
     m
@@ -230,8 +286,8 @@ fn list_parts(
 fn hit_in_parts(s: &[u8], at: usize, n: usize, name: &[u8], parts: &[u16], count: usize) -> usize
     requires { ⌜ 0 < length (now name) ⌝ }
     requires { ⌜ at + n * 48 + 34 + length (now name) ≤ length (now s) ⌝ }
-    requires { ⌜ n ≤ 256 ⌝ }
-    requires { ⌜ length (now parts) ≡ 768 ⌝ }
+    requires { ⌜ n ≤ 512 ⌝ }
+    requires { ⌜ length (now parts) ≡ 1536 ⌝ }
     requires { ⌜ BlocksListed 16 (now s) (now name) at (now parts) count (n * 3) ⌝ }
     ensures { λ r. ⌜ r ≤ at + n * 48 ⌝ }
     ensures { λ r. ⌜ Passed (now (s .entry)) (now (name .entry)) at r ⌝ }
@@ -261,14 +317,14 @@ fn hit_in_stretch(
     requires { ⌜ 0 < length (now name) ⌝ }
     requires { ⌜ at + n * 48 + 34 + length (now name) ≤ length (now s) ⌝ }
     requires { ⌜ (plain ≡ true → Plain (now name)) ⌝ }
-    requires { ⌜ n ≤ 256 ⌝ }
-    requires { ⌜ length (now blocks) ≡ 256 ⌝ }
-    requires { ⌜ length (now parts) ≡ 768 ⌝ }
+    requires { ⌜ n ≤ 512 ⌝ }
+    requires { ⌜ length (now blocks) ≡ 512 ⌝ }
+    requires { ⌜ length (now parts) ≡ 1536 ⌝ }
     ensures { λ r. ⌜ r ≤ at + n * 48 ⌝ }
     ensures { λ r. ⌜ Passed (now (s .entry)) (now (name .entry)) at r ⌝ }
 {
     let listed = list_for(s, at, n, name, plain, blocks);
-    let count = list_parts(s, at, n, name, blocks, listed, parts);
+    let count = list_parts(s, at, n, name, plain, blocks, listed, parts);
     hit_in_parts(s, at, n, name, parts, count)
 }
 
@@ -286,20 +342,20 @@ fn fitting(n: usize, room: usize) -> usize
     most
 }
 
-// How many blocks to list after `n` of them without a hit: twice as many, and at most 256. So a near hit costs no more than its distance.
+// How many blocks to list after `n` of them without a hit: twice as many, and at most 512. So a near hit costs no more than its distance.
 fn next_count(n: usize) -> usize
     requires { ⌜ 0 < n ⌝ }
-    requires { ⌜ n ≤ 256 ⌝ }
+    requires { ⌜ n ≤ 512 ⌝ }
     ensures { λ r. ⌜ 0 < r ⌝ }
-    ensures { λ r. ⌜ r ≤ 256 ⌝ }
+    ensures { λ r. ⌜ r ≤ 512 ⌝ }
 {
-    if n < 129 {
+    if n < 257 {
         return n * 2;
     }
     n
 }
 
-// The first hit from `at` on, or the last place but two: up to 256 blocks at a time.
+// The first hit from `at` on, or the last place but two: up to 512 blocks at a time.
 fn hit_by_stretches(
     s: &[u8],
     at: usize,
@@ -309,8 +365,8 @@ fn hit_by_stretches(
 ) -> usize
     requires { ⌜ 0 < length (now name) ⌝ }
     requires { ⌜ at + 2 ≤ length (now s) ⌝ }
-    requires { ⌜ length (now blocks) ≡ 256 ⌝ }
-    requires { ⌜ length (now parts) ≡ 768 ⌝ }
+    requires { ⌜ length (now blocks) ≡ 512 ⌝ }
+    requires { ⌜ length (now parts) ≡ 1536 ⌝ }
     ensures { λ r. ⌜ Passed (now (s .entry)) (now (name .entry)) at r ⌝ }
 {
     let len = s.len();
@@ -330,7 +386,7 @@ fn hit_by_stretches(
     hit_by_places(s, i, name)
 }
 
-// The first hit from `at` on, or the last place but two. An empty name has no length to look for. The lists, of 256 and 768 numbers, are
+// The first hit from `at` on, or the last place but two. An empty name has no length to look for. The lists, of 512 and 1536 numbers, are
 // lent, so that they are not cleared for each hit.
 pub fn next_hit(s: &[u8], at: usize, name: &[u8], blocks: &mut [u16], parts: &mut [u16]) -> usize
     ensures { λ r. ⌜ (0 < length (now (name .entry)) → at + 2 ≤ length (now (s .entry)) → Passed (now (s .entry)) (now (name .entry)) at r) ⌝ }
@@ -344,10 +400,10 @@ pub fn next_hit(s: &[u8], at: usize, name: &[u8], blocks: &mut [u16], parts: &mu
     if s.len() - 2 < at {
         return at;
     }
-    if blocks.len() != 256 {
+    if blocks.len() != 512 {
         return at;
     }
-    if parts.len() != 768 {
+    if parts.len() != 1536 {
         return at;
     }
     hit_by_stretches(s, at, name, blocks, parts)

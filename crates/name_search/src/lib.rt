@@ -61,8 +61,8 @@ fn next_candidate(s: &[u8], end: usize, name: &[u8], blocks: &mut [u16], parts: 
 pub fn find_line(db: &[u8], name: &[u8]) -> Found
     ensures { λ r. ⌜ r ≡ findLine (now (db .entry)) (now (name .entry)) ⌝ }
 {
-    let mut blocks = [0u16; 256];
-    let mut parts = [0u16; 768];
+    let mut blocks = [0u16; 512];
+    let mut parts = [0u16; 1536];
     let mut at = 0;
     'lines: loop {
         if !is_ignored(db, at) {

@@ -10,7 +10,7 @@ use Rattle.name_scan.proofs.hit_by_stretches.Statement.{statement}
 use Rattle.name_scan.proofs.hit_by_stretches.Tie as tie
 
 abbrev Inv-loop : tie.InvT-loop
-Inv-loop s at name blocks₀ parts₀ len reach plain n₀ i₀ blocks parts n i = (length blocks ≡ 256) × (length parts ≡ 768) × (0 < n) × (n ≤ 256) × Passed s name at i
+Inv-loop s at name blocks₀ parts₀ len reach plain n₀ i₀ blocks parts n i = (length blocks ≡ 512) × (length parts ≡ 1536) × (0 < n) × (n ≤ 512) × Passed s name at i
 
 abbrev μ-loop : tie.MeasureT-loop
 μ-loop s at name blocks₀ parts₀ len reach plain n₀ i₀ blocks parts n i = length s - i

@@ -11,7 +11,7 @@ use Rattle.name_scan.proofs.list_all.Statement.{statement}
 use Rattle.name_scan.proofs.list_all.Tie as tie
 
 abbrev Inv-loop : tie.InvT-loop
-Inv-loop n list₀ k₀ list k = (k ≤ n) × (length list ≡ 256) × Listed (λ (j : ℕ). ⊥) list k k
+Inv-loop n list₀ k₀ list k = (k ≤ n) × (length list ≡ 512) × Listed (λ (j : ℕ). ⊥) list k k
 
 abbrev μ-loop : tie.MeasureT-loop
 μ-loop n list₀ k₀ list k = n - k

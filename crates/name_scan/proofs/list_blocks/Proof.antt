@@ -10,7 +10,7 @@ use Rattle.name_scan.proofs.list_blocks.Statement.{statement}
 use Rattle.name_scan.proofs.list_blocks.Tie as tie
 
 abbrev Inv-loop : tie.InvT-loop
-Inv-loop s at n list₀ count₀ k₀ list count k = (k ≤ n) × (length list ≡ 256) × StartsListed s at list count k
+Inv-loop s at n list₀ count₀ k₀ list count k = (k ≤ n) × (length list ≡ 512) × StartsListed s at list count k
 
 abbrev μ-loop : tie.MeasureT-loop
 μ-loop s at n list₀ count₀ k₀ list count k = n - k

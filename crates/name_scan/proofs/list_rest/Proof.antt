@@ -11,7 +11,7 @@ use Rattle.name_scan.proofs.list_rest.Statement.{statement}
 use Rattle.name_scan.proofs.list_rest.Tie as tie
 
 abbrev Inv-loop : tie.InvT-loop
-Inv-loop s at k n list₀ count i₀ c₀ list i c = (i ≤ n) × (length list ≡ 256) × StartsListed s at list c i
+Inv-loop s at k n list₀ count i₀ c₀ list i c = (i ≤ n) × (length list ≡ 512) × StartsListed s at list c i
 
 abbrev μ-loop : tie.MeasureT-loop
 μ-loop s at k n list₀ count i₀ c₀ list i c = n - i

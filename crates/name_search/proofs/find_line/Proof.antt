@@ -22,7 +22,7 @@ abbrev μ-loop : tie.MeasureT-loop
 μ-loop db name blocks parts at p₀ p = length db - p
 
 abbrev Inv-lines : tie.InvT-lines
-Inv-lines db name blocks₀ parts₀ at₀ blocks parts at = (at ≤ length db) × Apart db at × (findLine db name ≡ find name (linesFrom at (textAt db at))) × (length blocks ≡ 256) × (length parts ≡ 768)
+Inv-lines db name blocks₀ parts₀ at₀ blocks parts at = (at ≤ length db) × Apart db at × (findLine db name ≡ find name (linesFrom at (textAt db at))) × (length blocks ≡ 512) × (length parts ≡ 1536)
 
 abbrev μ-lines : tie.MeasureT-lines
 μ-lines db name blocks₀ parts₀ at₀ blocks parts at = length db - at
