@@ -80,7 +80,7 @@ impl Series<'_> {
     fn print(&self) {
         let runs: Vec<Run> = self.rows().map(|row| (Contender::Ours, row)).collect();
         let sizes = self.points.iter().map(|(size, _)| *size as f64);
-        let measured: Vec<(f64, f64)> = sizes.zip(timing::medians(&runs, BUDGET)).collect();
+        let measured: Vec<(f64, f64)> = sizes.zip(timing::medians(runs, BUDGET)).collect();
         println!("\n  {}: grows with the power {:.2}", self.name, exponent(&measured));
         for (size, taken) in measured {
             let units = format!("{}s", self.unit);

@@ -49,7 +49,7 @@ fn print_row(row: &Row) -> f64 {
     let code = row.questions[0].ask(&Library, &mut vec![0; ROOM]).code;
     let read: usize = row.searches.iter().map(|wanted| bytes_read(*wanted)).sum();
     let read = if is_show(row) { read } else { read + chain_bytes(row) };
-    let taken = timing::medians(&[(Contender::Ours, row)], BUDGET)[0];
+    let taken = timing::medians(vec![(Contender::Ours, row)], BUDGET)[0];
     let per_byte = taken / read as f64;
     println!(
         "  {:44} {:>9} {read:>10} {code:>7} {:>10} {per_byte:>8.3}",

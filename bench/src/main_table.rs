@@ -6,9 +6,12 @@ use crate::contender::{Contender, Row, RIVALS};
 use crate::plain_c;
 use crate::rows::Group;
 use crate::targets::Targets;
-use crate::timing::{self, Run};
+use crate::timing::Measurement;
 
-const BUDGET: Duration = Duration::from_millis(700);
+/// Each row is visited so often, after all the others, for so long: a slow second of the machine
+/// is then only a part of a row's samples.
+const VISITS: usize = 5;
+const BUDGET: Duration = Duration::from_millis(180);
 const CELL: usize = 21;
 
 pub fn print(groups: &[Group], targets: &mut Targets) {
@@ -22,21 +25,34 @@ pub fn print(groups: &[Group], targets: &mut Targets) {
     if !plain_c::simd_is_vector() {
         println!("Without SSE2 here, C SIMD is C memchr.");
     }
+    let mut times = times(groups).into_iter();
     for group in groups {
         println!("\n{}", group.title);
         print!("  {:26} {:>10}", "", "ours");
         let names: String = RIVALS.iter().map(|one| format!("  {:<CELL$}", one.name())).collect();
         println!("{}", names.trim_end());
-        for row in &group.rows {
-            print_row(row, targets);
+        for (row, times) in group.rows.iter().zip(&mut times) {
+            print_row(row, &times, targets);
         }
     }
 }
 
-fn print_row(row: &Row, targets: &mut Targets) {
+/// The median times of every row's contenders.
+fn times(groups: &[Group]) -> Vec<Vec<f64>> {
+    let rows = groups.iter().flat_map(|group| &group.rows);
+    let mut measurements: Vec<Measurement> = rows.map(measurement).collect();
+    for _ in 0..VISITS {
+        measurements.iter_mut().for_each(|one| one.visit(BUDGET));
+    }
+    measurements.into_iter().map(Measurement::medians).collect()
+}
+
+fn measurement<'a>(row: &'a Row<'a>) -> Measurement<'a> {
+    Measurement::new(row.contenders().into_iter().map(|contender| (contender, row)).collect())
+}
+
+fn print_row(row: &Row, times: &[f64], targets: &mut Targets) {
     let contenders = row.contenders();
-    let runs: Vec<Run> = contenders.iter().map(|contender| (*contender, row)).collect();
-    let times = timing::medians(&runs, BUDGET);
     let mut line = format!("  {:26} {:>10}", row.name, time(times[0]));
     for rival in RIVALS {
         let cell = match contenders.iter().position(|one| *one == rival) {

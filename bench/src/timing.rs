@@ -13,22 +13,50 @@ const MOST_ROUNDS: usize = 401;
 /// One contender's way through one row.
 pub type Run<'a> = (Contender, &'a Row<'a>);
 
-/// The median time of each run in nanoseconds a question. The runs take turns, round by round, so
-/// that a slow moment of the machine meets all of them.
-pub fn medians(runs: &[Run], budget: Duration) -> Vec<f64> {
-    let mut out = vec![0; ROOM];
-    let counts: Vec<usize> = runs.iter().map(|run| questions_a_sample(*run, &mut out)).collect();
-    let mut samples = vec![Vec::new(); runs.len()];
-    let start = Instant::now();
-    let mut round = 0;
-    while round < FEWEST_ROUNDS || (round < MOST_ROUNDS && start.elapsed() < budget) {
-        for ((run, count), samples) in runs.iter().zip(&counts).zip(&mut samples) {
-            samples.push(sample(*run, round, *count, &mut out));
-        }
-        round += 1;
+/// Runs that take turns, and the samples that were taken of each.
+pub struct Measurement<'a> {
+    runs: Vec<Run<'a>>,
+    /// How many questions a sample of each run has.
+    counts: Vec<usize>,
+    samples: Vec<Vec<Duration>>,
+}
+
+impl<'a> Measurement<'a> {
+    pub fn new(runs: Vec<Run<'a>>) -> Measurement<'a> {
+        let mut out = vec![0; ROOM];
+        let counts = runs.iter().map(|run| questions_a_sample(*run, &mut out)).collect();
+        let samples = vec![Vec::new(); runs.len()];
+        Measurement { runs, counts, samples }
     }
-    let a_question = |(samples, count)| median(samples).as_nanos() as f64 / count as f64;
-    samples.into_iter().zip(counts).map(a_question).collect()
+
+    /// More samples, for about so long. The runs take turns, round by round, so that a slow moment
+    /// of the machine meets all of them.
+    pub fn visit(&mut self, budget: Duration) {
+        let mut out = vec![0; ROOM];
+        let start = Instant::now();
+        let mut round = 0;
+        while round < FEWEST_ROUNDS || (round < MOST_ROUNDS && start.elapsed() < budget) {
+            for ((run, count), samples) in self.runs.iter().zip(&self.counts).zip(&mut self.samples)
+            {
+                let turn = samples.len();
+                samples.push(sample(*run, turn, *count, &mut out));
+            }
+            round += 1;
+        }
+    }
+
+    /// The median time of each run in nanoseconds a question.
+    pub fn medians(self) -> Vec<f64> {
+        let a_question = |(samples, count)| median(samples).as_nanos() as f64 / count as f64;
+        self.samples.into_iter().zip(self.counts).map(a_question).collect()
+    }
+}
+
+/// The medians of one visit.
+pub fn medians(runs: Vec<Run>, budget: Duration) -> Vec<f64> {
+    let mut measurement = Measurement::new(runs);
+    measurement.visit(budget);
+    measurement.medians()
 }
 
 fn questions_a_sample(run: Run, out: &mut [u8]) -> usize {
@@ -41,10 +69,10 @@ fn questions_a_sample(run: Run, out: &mut [u8]) -> usize {
 
 /// The time of so many questions. One more before them is not timed: whatever ran before, the
 /// database is then as near to the processor as it gets.
-fn sample((contender, row): Run, round: usize, count: usize, out: &mut [u8]) -> Duration {
-    contender.take(row, round, out);
+fn sample((contender, row): Run, first: usize, count: usize, out: &mut [u8]) -> Duration {
+    contender.take(row, first, out);
     let start = Instant::now();
-    for turn in round..round + count {
+    for turn in first..first + count {
         contender.take(row, turn, out);
     }
     start.elapsed()

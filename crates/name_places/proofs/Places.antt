@@ -2,15 +2,14 @@
 -- Assumes nothing.
 use Prim.Native.Nat.{ℕ, _+_, _-_, _≤_, _<_}
 use mathlib.Core.Path.{_≡_, refl, sym}
-use mathlib.Core.Bool.{Bool, true, false, not, _&&_, _||_, true≢false}
+use mathlib.Core.Bool.{Bool, true, false, _&&_, _||_, true≢false}
 use mathlib.Core.List.{List}
 use mathlib.Core.Logic.{inl, inr}
 use native.Mathlib.Omega.{arith}
-use borrow.Author.Tests.{eq-eqb, ne-eqb, eqb-true, eqb-false, ltb-true, ltb-false}
-use lib.Bits.{bitAnd, bitOr}
+use borrow.Author.Tests.{eqb-true, eqb-false, ltb-true, ltb-false}
 use lib.Dec.{eqb, ltb}
 use lib.ListN.{length}
-use Rattle.name_places.specs.Marks.{Separator, Alone, Ending, Stop, Settled, Each, Passed}
+use Rattle.name_places.specs.Marks.{Separator, Ending, Settled, Each, Passed}
 
 pub or-left : (x y : Bool) → (x || y) ≡ false → x ≡ false
 or-left true y e = e
@@ -21,23 +20,6 @@ or-right true y e = absurd (true≢false e)
 or-right false y e = e
 
 -- ---- the tests of a place
-
-pub separator-true : (b : ℕ) → Separator b → (eqb b 10 || eqb b 124) ≡ true
-separator-true b (inl e) = rw e
-separator-true b (inr e) = rw e
-
-pub not-stop : (b : ℕ) → (eqb (bitAnd b 207) 10 || eqb (bitOr b 32) 124) ≡ false → Stop b → ⊥
-not-stop b e (inl x) = true≢false (rw x at e)
-not-stop b e (inr (inl x)) = true≢false (rw x at e)
-not-stop b e (inr (inr (inl x))) = true≢false (rw x at e)
-not-stop b e (inr (inr (inr x))) = true≢false (rw x at e)
-
-alone-true : (a b : ℕ) → Separator b → Alone a b → (eqb b 124 || (eqb b 10 && not (eqb a 92))) ≡ true
-alone-true a b (inl e) h = rw (e, ne-eqb a 92 (h e))
-alone-true a b (inr e) h = rw e
-
-pub not-between : (a b : ℕ) (stop : Bool) → ((eqb b 124 || (eqb b 10 && not (eqb a 92))) && stop) ≡ false → Separator b → Alone a b → stop ≡ false
-not-between a b stop e x y = rw (alone-true a b x y) at e
 
 and-left : (x y : Bool) → (x && y) ≡ true → x ≡ true
 and-left true y e = refl
@@ -64,9 +46,6 @@ pub ending-false : (b : ℕ) → ((eqb b 10 || eqb b 58) || eqb b 124) ≡ false
 ending-false b e (inl x) = true≢false (rw x at e)
 ending-false b e (inr (inl x)) = true≢false (rw x at e)
 ending-false b e (inr (inr x)) = true≢false (rw x at e)
-
-pub not-cut : (a b c : ℕ) → ((eqb c 10 && eqb b 92) && not (eqb a 58)) ≡ false → c ≡ 10 → b ≡ 92 → (a ≡ 58 → ⊥) → ⊥
-not-cut a b c e x y z = true≢false (rw (eq-eqb c 10 x, eq-eqb b 92 y, ne-eqb a 58 z) at e)
 
 -- ---- each place of a range
 

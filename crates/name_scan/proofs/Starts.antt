@@ -7,14 +7,14 @@ use mathlib.Core.List.{List}
 use mathlib.Core.Logic.{inl, inr, ⊎-elim}
 use native.Mathlib.Omega.{arith}
 use borrow.Author.Tests.{le-leb, lt-ltb}
-use lib.Dec.{eqb, leb, ltb}
+use lib.Dec.{leb, ltb}
 use lib.ListN.{length, getD}
 use Rattle.name_places.specs.Marks.{Separator, Alone, Stop, Spelled, Inside, Settled, AllSettled}
 use Rattle.name_places.proofs.Places.{or-left, or-right}
 use Rattle.name_scan.specs.Blocks.{Start, Startless, Plain}
 
-pub not-high : (l : ℕ) → (leb 117 l && ltb l 128) ≡ false → 117 ≤ l → l < 128 → ⊥
-not-high l e x y = true≢false (rw (le-leb 117 l x, lt-ltb l 128 y) at e)
+pub not-within : (a b l : ℕ) → (leb a l && ltb l b) ≡ false → a ≤ l → l < b → ⊥
+not-within a b l e x y = true≢false (rw (le-leb a l x, lt-ltb l b y) at e)
 
 pub not-start :
     (b c : ℕ) {l : ℕ} (high : Bool)
