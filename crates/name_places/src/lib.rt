@@ -244,16 +244,29 @@ pub fn hit_in_part(s: &[u8], at: usize, name: &[u8]) -> usize
     at + 16
 }
 
-// The first hit from `at` on, or the last place but two: place by place.
-pub fn hit_by_places(s: &[u8], at: usize, name: &[u8]) -> usize
+// The first hit from `at` on, or the last place but two: part by part, and place by place at the end. An empty name has no length to look
+// for.
+pub fn hit_by_parts(s: &[u8], at: usize, name: &[u8]) -> usize
     ensures { λ r. ⌜ (at + 2 ≤ length (now (s .entry)) → Passed (now (s .entry)) (now (name .entry)) at r) ⌝ }
 {
     let len = s.len();
+    if name.len() == 0 {
+        return at;
+    }
     if len < 2 {
         return at;
     }
     if len - 2 < at {
         return at;
     }
-    first_hit(s, at, len - 2, name)
+    let need = name.len() + 50;
+    let mut i = at;
+    while need <= len - i {
+        let found = hit_in_part(s, i, name);
+        if found - i < 16 {
+            return found;
+        }
+        i = found;
+    }
+    first_hit(s, i, len - 2, name)
 }

@@ -1,6 +1,6 @@
 // Scans a termcap database for an asked name, in blocks of 48 bytes. It passes over all blocks in which no name can start, then over all
 // parts of the others in which no name can have the asked length.
-use name_places::hit_by_places;
+use name_places::hit_by_parts;
 use name_places::hit_in_part;
 use name_places::is_between;
 use name_places::is_cut;
@@ -383,7 +383,7 @@ fn hit_by_stretches(
         n = next_count(n);
         i = found;
     }
-    hit_by_places(s, i, name)
+    hit_by_parts(s, i, name)
 }
 
 // The first hit from `at` on, or the last place but two. An empty name has no length to look for. The lists, of 512 and 1536 numbers, are

@@ -72,8 +72,8 @@ loop-again c =
     let l = c .before .before .before .before .before .before .before .before .before .before .before .loop in
     (omega (arith, l .inv .0), omega (arith, l .inv .1), omega arith, omega arith, passed-join (l .inv .4) (p .1))
 
-hit-by-places-requires : tie.Need-hit-by-places-requires Inv-loop μ-loop
-hit-by-places-requires c κs = tt
+hit-by-parts-requires : tie.Need-hit-by-parts-requires Inv-loop μ-loop
+hit-by-parts-requires c κs = tt
 
 same-length-3 : tie.Need-same-length-3 Inv-loop μ-loop
 same-length-3 c = omega (arith, c .before .before .loop .inv .0, c .before .before .before .before .before .before .before .before .pre .1 .1 .0)
@@ -82,7 +82,7 @@ same-length-4 : tie.Need-same-length-4 Inv-loop μ-loop
 same-length-4 c = omega (arith, c .before .before .loop .inv .1, c .before .before .before .before .before .before .before .before .pre .1 .1 .1)
 
 returns-2 : tie.Need-returns-2 Inv-loop μ-loop
-returns-2 c = passed-join (c .before .before .loop .inv .4) (c .hit-by-places .ensures (omega arith))
+returns-2 c = passed-join (c .before .before .loop .inv .4) (c .hit-by-parts .ensures (omega arith))
 
 pub hit-by-stretches-spec : {M : Type 1} → statement M
 hit-by-stretches-spec =
@@ -106,7 +106,7 @@ hit-by-stretches-spec =
     next-count-requires
     loop-less
     loop-again
-    hit-by-places-requires
+    hit-by-parts-requires
     same-length-3
     same-length-4
     returns-2)
