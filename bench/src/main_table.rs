@@ -10,8 +10,8 @@ use crate::timing::Measurement;
 
 /// Each row is visited so often, after all the others, for so long: a slow second of the machine
 /// is then only a part of a row's samples.
-const VISITS: usize = 5;
-const BUDGET: Duration = Duration::from_millis(180);
+const VISITS: usize = 12;
+const BUDGET: Duration = Duration::from_millis(150);
 const CELL: usize = 21;
 
 pub fn print(groups: &[Group], targets: &mut Targets) {

@@ -168,33 +168,29 @@ measured s p far x =
 
 -- ---- a name that is not the asked one
 
+pub too-short : (s : List ℕ) (p r d : ℕ) → Measured s p r → leb d r ≡ false → d ≤ 32 → Whole s p (p + d) → ⊥
+too-short s p r d x e g z = let h = leb-false d r e in z .holds (p + r) (omega arith) (omega arith) (x .ends (omega arith))
+
 pub picked-below : (held : Bool) (x y : ℕ) {m r : ℕ} → r ≡ pickOf held x y → x < m → y < m → r < m
 picked-below true x y e h g = omega arith
 picked-below false x y e h g = omega arith
 
-too-short : (s : List ℕ) (p r d : ℕ) → Measured s p r → r < d → d ≤ 32 → Whole s p (p + d) → ⊥
-too-short s p r d x h g z = z .holds (p + r) (omega arith) (omega arith) (x .ends (omega arith))
-
 both-same : (a b c d : ℕ) → (eqb a b && eqb c d) ≡ false → a ≡ b → c ≡ d → ⊥
 both-same a b c d e f g = true≢false (rw (eq-eqb a b f, eq-eqb c d g) at e)
 
--- by the bytes at the places i and j, which are the name's ends if it is long enough and its length is not open
+-- by the bytes at the places i and j, which are the name's ends if it is long enough and has no backslash at its end
 pub unlike :
-    (s n : List ℕ) (p r i j : ℕ) (held : Bool) → 0 < length n → length n ≤ 32 → Measured s p r
-    → i ≡ pickOf (leb (length n) r && not held) p (p - 1) → j ≡ pickOf (leb (length n) r && not held) (p + length n - 1) (p - 1)
-    → (held || (eqb (getD s i 0) (getD n 0 0) && eqb (getD s j 0) (getD n (length n - 1) 0))) ≡ false
+    (s n : List ℕ) (p i j : ℕ) (whole pair : Bool) → 0 < length n
+    → (whole ≡ false → Whole s p (p + length n) → ⊥)
+    → i ≡ pickOf (whole && not pair) p (p - 1) → j ≡ pickOf (whole && not pair) (p + length n - 1) (p - 1)
+    → ((whole && pair) || (eqb (getD s i 0) (getD n 0 0) && eqb (getD s j 0) (getD n (length n - 1) 0))) ≡ false
     → Spelled s n p → Whole s p (p + length n) → ⊥
-unlike s n p r i j true some few x e f h y z = true≢false h
-unlike s n p r i j false some few x e f h y z = go (leb (length n) r) refl
-  where
-    go : (w : Bool) → leb (length n) r ≡ w → ⊥
-    go false w =
-        let v = leb-false (length n) r w in
-        too-short s p r (length n) x (omega arith) few z
-    go true w =
-        let first : i ≡ p + 0 = rw w at e ∙ omega arith in
-        let last : j ≡ p + (length n - 1) = rw w at f ∙ omega arith in
-        both-same (getD s i 0) (getD n 0 0) (getD s j 0) (getD n (length n - 1) 0) h (rw first (y 0 some)) (rw last (y (length n - 1) (omega arith)))
+unlike s n p i j false pair some x e f h y z = x refl z
+unlike s n p i j true true some x e f h y z = true≢false h
+unlike s n p i j true false some x e f h y z =
+    let first : i ≡ p + 0 = e ∙ omega arith in
+    let last : j ≡ p + (length n - 1) = f ∙ omega arith in
+    both-same (getD s i 0) (getD n 0 0) (getD s j 0) (getD n (length n - 1) 0) h (rw first (y 0 some)) (rw last (y (length n - 1) (omega arith)))
 
 -- ---- the last of the marked places is the only one that matters
 

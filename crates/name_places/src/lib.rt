@@ -136,13 +136,11 @@ fn is_like(s: &[u8], at: usize, name: &[u8]) -> bool
         return true;
     }
     let whole = size <= (measure(s, at) as usize);
-    let last = s[pick(whole, at + size - 1, at - 1)];
-    let behind = s[pick(whole, at + size, at - 1)];
-    let open = (last == 92) | (behind == 92);
+    let open = (s[at + size - 1] == 92) | (s[at + size] == 92);
     let sure = whole & !open;
     let start = s[pick(sure, at, at - 1)];
     let end = s[pick(sure, at + size - 1, at - 1)];
-    open | ((start == name[0]) & (end == name[size - 1]))
+    (whole & open) | ((start == name[0]) & (end == name[size - 1]))
 }
 
 // Whether one of the 16 places from `at` on may be a hit. Of those where a name may have the asked length, the last one is looked at: an

@@ -6,7 +6,7 @@ use lib.Dec.{eqb, leb}
 use lib.ListN.{length, getD}
 use mathlib.Core.Bool.{not, _&&_, _||_, true≢false}
 use native.Mathlib.Omega.{arith}
-use Rattle.name_places.proofs.Marking.{picked-below, unlike}
+use Rattle.name_places.proofs.Marking.{picked-below, too-short, unlike}
 use Rattle.name_places.proofs.is_like.Statement.{statement}
 use Rattle.name_places.proofs.is_like.Tie as tie
 
@@ -19,23 +19,40 @@ measure-requires c κs = search needs
 cast-whole : tie.Need-cast-whole
 cast-whole c = search needs
 
-add-pick : tie.Need-add-pick
-add-pick c = search needs
+add-open : tie.Need-add-open
+add-open c = search needs
+
+sub-open : tie.Need-sub-open
+sub-open c = search needs
+
+shared-slice-read-open : tie.Need-shared-slice-read-open
+shared-slice-read-open c = search needs
+
+add-open-2 : tie.Need-add-open-2
+add-open-2 c = search needs
+
+shared-slice-read-open-2 : tie.Need-shared-slice-read-open-2
+shared-slice-read-open-2 c = search needs
 
 sub-pick : tie.Need-sub-pick
 sub-pick c = search needs
 
-sub-pick-2 : tie.Need-sub-pick-2
-sub-pick-2 c = search needs
-
 pick-requires : tie.Need-pick-requires
 pick-requires c κs = search needs
 
-shared-slice-read-last : tie.Need-shared-slice-read-last
-shared-slice-read-last c = picked-below (leb (length (c .before .before .before .before .before .before .args .name .now)) (c .before .before .measure .result)) (c .before .before .before .before .before .before .args .at + length (c .before .before .before .before .before .before .args .name .now) - 1) (c .before .before .before .before .before .before .args .at - 1) (c .before .pick .ensures) (omega arith) (omega arith)
+shared-slice-read-start : tie.Need-shared-slice-read-start
+shared-slice-read-start c =
+    let a = c .before .before .before .before .before .before .before .before .args in
+    let size = length (a .name .now) in
+    let pair = eqb (getD (a .s .now) (a .at + size - 1) 0) 92 || eqb (getD (a .s .now) (a .at + size) 0) 92 in
+    let measured = c .before .before .before .before .measure in
+    picked-below (leb size (measured .result) && not pair) (a .at) (a .at - 1) (c .before .pick .ensures) (omega arith) (omega arith)
 
-add-pick-2 : tie.Need-add-pick-2
-add-pick-2 c = search needs
+add-pick : tie.Need-add-pick
+add-pick c = search needs
+
+sub-pick-2 : tie.Need-sub-pick-2
+sub-pick-2 c = search needs
 
 sub-pick-3 : tie.Need-sub-pick-3
 sub-pick-3 c = search needs
@@ -43,32 +60,13 @@ sub-pick-3 c = search needs
 pick-requires-2 : tie.Need-pick-requires-2
 pick-requires-2 c κs = search needs
 
-shared-slice-read-behind : tie.Need-shared-slice-read-behind
-shared-slice-read-behind c = picked-below (leb (length (c .before .before .before .before .before .before .before .before .args .name .now)) (c .before .before .before .before .measure .result)) (c .before .before .before .before .before .before .before .before .args .at + length (c .before .before .before .before .before .before .before .before .args .name .now)) (c .before .before .before .before .before .before .before .before .args .at - 1) (c .before .pick2 .ensures) (omega arith) (omega arith)
-
-sub-pick-4 : tie.Need-sub-pick-4
-sub-pick-4 c = search needs
-
-pick-requires-3 : tie.Need-pick-requires-3
-pick-requires-3 c κs = search needs
-
-shared-slice-read-start : tie.Need-shared-slice-read-start
-shared-slice-read-start c = picked-below (leb (length (c .before .before .before .before .before .before .before .before .before .before .args .name .now)) (c .before .before .before .before .before .before .measure .result) && not (eqb (getD (c .before .before .before .before .before .before .before .before .before .before .args .s .now) (c .before .before .before .before .before .pick .result) 0) 92 || eqb (getD (c .before .before .before .before .before .before .before .before .before .before .args .s .now) (c .before .before .before .pick2 .result) 0) 92)) (c .before .before .before .before .before .before .before .before .before .before .args .at) (c .before .before .before .before .before .before .before .before .before .before .args .at - 1) (c .before .pick3 .ensures) (omega arith) (omega arith)
-
-add-pick-3 : tie.Need-add-pick-3
-add-pick-3 c = search needs
-
-sub-pick-5 : tie.Need-sub-pick-5
-sub-pick-5 c = search needs
-
-sub-pick-6 : tie.Need-sub-pick-6
-sub-pick-6 c = search needs
-
-pick-requires-4 : tie.Need-pick-requires-4
-pick-requires-4 c κs = search needs
-
 shared-slice-read-end : tie.Need-shared-slice-read-end
-shared-slice-read-end c = picked-below (leb (length (c .before .before .before .before .before .before .before .before .before .before .before .before .args .name .now)) (c .before .before .before .before .before .before .before .before .measure .result) && not (eqb (getD (c .before .before .before .before .before .before .before .before .before .before .before .before .args .s .now) (c .before .before .before .before .before .before .before .pick .result) 0) 92 || eqb (getD (c .before .before .before .before .before .before .before .before .before .before .before .before .args .s .now) (c .before .before .before .before .before .pick2 .result) 0) 92)) (c .before .before .before .before .before .before .before .before .before .before .before .before .args .at + length (c .before .before .before .before .before .before .before .before .before .before .before .before .args .name .now) - 1) (c .before .before .before .before .before .before .before .before .before .before .before .before .args .at - 1) (c .before .pick4 .ensures) (omega arith) (omega arith)
+shared-slice-read-end c =
+    let a = c .before .before .before .before .before .before .before .before .before .before .args in
+    let size = length (a .name .now) in
+    let pair = eqb (getD (a .s .now) (a .at + size - 1) 0) 92 || eqb (getD (a .s .now) (a .at + size) 0) 92 in
+    let measured = c .before .before .before .before .before .before .measure in
+    picked-below (leb size (measured .result) && not pair) (a .at + size - 1) (a .at - 1) (c .before .pick2 .ensures) (omega arith) (omega arith)
 
 shared-slice-read-result : tie.Need-shared-slice-read-result
 shared-slice-read-result c = search needs
@@ -81,8 +79,11 @@ shared-slice-read-result-2 c = search needs
 
 returns-2 : tie.Need-returns-2
 returns-2 c =
-    let a = c .before .before .before .before .before .before .before .before .before .before .before .before .before .before .args in
-    λ e. unlike (a .s .now) (a .name .now) (a .at) _ _ _ (eqb (getD (c .before .before .before .before .before .before .before .before .before .before .before .before .before .before .args .s .now) (c .before .before .before .before .before .before .before .before .before .pick .result) 0) 92 || eqb (getD (c .before .before .before .before .before .before .before .before .before .before .before .before .before .before .args .s .now) (c .before .before .before .before .before .before .before .pick2 .result) 0) 92) (omega arith) (omega arith) (c .before .before .before .before .before .before .before .before .before .before .measure .ensures) (c .before .before .before .before .before .pick3 .ensures) (c .before .before .before .pick4 .ensures) e
+    let a = c .before .before .before .before .before .before .before .before .before .before .before .before .args in
+    let size = length (a .name .now) in
+    let pair = eqb (getD (a .s .now) (a .at + size - 1) 0) 92 || eqb (getD (a .s .now) (a .at + size) 0) 92 in
+    let measured = c .before .before .before .before .before .before .before .before .measure in
+    unlike (a .s .now) (a .name .now) (a .at) _ _ (leb size (measured .result)) pair (omega arith) (λ e. too-short _ _ _ _ (measured .ensures) e (omega arith)) (c .before .before .before .before .before .pick .ensures) (c .before .before .before .pick2 .ensures)
 
 pub is-like-spec : {M : Type 1} → statement M
 is-like-spec =
@@ -91,22 +92,18 @@ is-like-spec =
     returns
     measure-requires
     cast-whole
-    add-pick
+    add-open
+    sub-open
+    shared-slice-read-open
+    add-open-2
+    shared-slice-read-open-2
     sub-pick
-    sub-pick-2
     pick-requires
-    shared-slice-read-last
-    add-pick-2
+    shared-slice-read-start
+    add-pick
+    sub-pick-2
     sub-pick-3
     pick-requires-2
-    shared-slice-read-behind
-    sub-pick-4
-    pick-requires-3
-    shared-slice-read-start
-    add-pick-3
-    sub-pick-5
-    sub-pick-6
-    pick-requires-4
     shared-slice-read-end
     shared-slice-read-result
     sub-result
