@@ -10,20 +10,22 @@ ghost use Rattle.name_places.specs.Marks.{Separator, Alone, Ending, Stop
 
 // ---- where a name may have the asked length
 
-// Whether a byte may follow a name: a newline, a colon, a bar, or the backslash of a pair. Each of the two tests is for a couple of them
-// (and the first also for 26 and 42, which are rare there): half as many comparisons.
+// Whether a byte may follow a name: a newline, a colon, a bar, or the backslash of a pair. Each of the two tests is for a couple of them,
+// half as many comparisons; the first also lets 26 and 42 through, which are rare.
 pub fn is_stop(b: u8) -> bool
     ensures { λ r. ⌜ (r ≡ false → Stop b → ⊥) ⌝ }
 {
     ((b & 207) == 10) | ((b | 32) == 124)
 }
 
-// Whether a name may stand between two bytes, behind the newline of no pair.
+// Whether a name may stand between two bytes, behind the newline of no pair. A backslash may follow it, as the first byte of a pair. Here
+// no other byte is let through: a name that another byte follows has another length.
 pub fn is_between(before: u8, separator: u8, behind: u8) -> bool
     ensures { λ r. ⌜ (r ≡ false → Separator separator → Alone before separator → Stop behind → ⊥) ⌝ }
     ensures { λ r. ⌜ (r ≡ true → Separator separator) ⌝ }
 {
-    ((separator == 124) | ((separator == 10) & (before != 92))) & is_stop(behind)
+    ((separator == 124) | ((separator == 10) & (before != 92)))
+        & ((behind == 10) | (behind == 58) | (behind == 92) | (behind == 124))
 }
 
 // Whether the last of three bytes is a newline that vanishes among the names of its line: after a backslash, and no colon before that.
