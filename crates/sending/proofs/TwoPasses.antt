@@ -1,9 +1,9 @@
--- The pass that measures, and the pass that writes. Assumes nothing.
+-- The pass beside the buffer, and the pass that writes. Assumes nothing.
 use mathlib.Core.Path.{_≡_, sym, ap, _∙_}
 use mathlib.Core.List.{List, _++_}
 use Prim.Native.Nat.{ℕ, _≤_}
 use native.Mathlib.Omega.{arith}
-use lib.ListN.{length, drop, replicate, drop-of-length-le}
+use lib.ListN.{length, drop, replicate}
 use lib.Seq.{sets}
 use Rattle.spec.specs.Position.{Body, body, fault}
 use Rattle.spec.specs.Sending.{sends, stops}
@@ -13,10 +13,6 @@ use Rattle.compensations.specs.declared.FilledIn.{FilledIn}
 use Rattle.compensations.specs.declared.FilledIn.the-variants.{Until as FilledUntil, NoRoom as NoRoomToFill, Fault}
 use Rattle.sending.specs.Steps.{withPads}
 use Rattle.sending.proofs.LentTail.{set-front}
-
--- An empty part that was lent comes back empty.
-pub kept-empty : (ys out : List ℕ) → length ys ≡ 0 → ys ++ out ≡ out
-kept-empty ys out e = rw (drop-of-length-le ys {i = 0} (omega arith))
 
 module _ (t : Body) (pads pad : ℕ) where
   pub sends-fault : (r : Refusal) → t ≡ fault r → withPads t pads pad ≡ stops r

@@ -162,7 +162,11 @@ fn at_place(row: u64, column: u64) -> Parameters
     )
 }
 
-// Two passes: the first measures with an empty part of the buffer, and the second writes, once all is known to fit.
+// So many bytes are filled in beside the buffer, and then copied.
+const SMALL: usize = 128;
+
+// The body is filled in beside the buffer, which keeps its bytes until all is known to fit. What is longer is only measured there, and is
+// filled in again.
 fn send_filled(
     body: &[u8],
     row: u64,
@@ -179,11 +183,15 @@ fn send_filled(
 {
     let capacity = out.len();
     let first = at_place(row, column);
-    let measured = fill_in(body, first, back, up, capacity, &mut out[0..0]);
+    let mut small = [0u8; SMALL];
+    let measured = fill_in(body, first, back, up, capacity, &mut small);
     match measured {
         FilledIn::Fault(r) => return Written::Refused(r),
         FilledIn::NoRoom => return Written::Refused(Refusal::NoRoom),
         FilledIn::Until(n) => {
+            if n <= SMALL {
+                return send_copied(&small[..n], pads, pad, out);
+            }
             if pads > capacity - n {
                 return Written::Refused(Refusal::NoRoom);
             }
