@@ -5,9 +5,8 @@ use Prim.Native.Nat.{ℕ, _-_, _≤_}
 use native.Mathlib.Omega.{arith}
 use lib.ListN.{length, take, drop, getD, length-drop, drop-of-length-le}
 use lib.Seq.{take-all}
-use borrow.Author.Tests.{eq-eqb, ne-eqb}
 use Rattle.spec.specs.Sequences.{readByte, perform, outputBytes}
-use Rattle.spec.specs.Position.{filled, refused, then, onByte, plainOf, percentOf}
+use Rattle.spec.specs.Position.{refused, then, onByte, plainOf, percentOf}
 use Rattle.spec.specs.declared.Refusal.{Refusal}
 use Rattle.spec.specs.declared.Refusal.the-variants.{UnknownSequence}
 use Rattle.spec.specs.declared.position.Parameters.{Parameters}
@@ -15,7 +14,6 @@ use Rattle.spec.specs.declared.position.Raising.{Raising}
 use Rattle.spec.specs.declared.position.Sequence.{Sequence}
 use Rattle.spec.specs.declared.position.Output.{Output}
 use Rattle.spec.specs.declared.position.Pending.{Pending}
-use Rattle.spec.specs.declared.position.Pending.the-variants.{Letter}
 use Rattle.spec.specs.declared.position.Progress.{Progress}
 use Rattle.spec.specs.declared.position.Progress.the-variants.{More, Whole, Unknown}
 use Rattle.spec.specs.declared.position.Effect.the-variants.{Gives, Refused}
@@ -40,19 +38,6 @@ parts [] n = absurd (n refl)
 parts (x ∷ s) n = rw (part-is (x ∷ s) 1)
 
 module _ (s : List ℕ) (g : Raising) (ps : Parameters) where
-  pub plain-none : length s ≡ 0 → plainOf s g ps ≡ filled [] ps
-  unfolding plainOf
-  plain-none e = ap (λ (l : List ℕ). plainOf l g ps) (drop-of-length-le s {i = 0} (omega arith))
-
-  module _ (n : length s ≡ 0 → ⊥) where
-    pub plain-sign : getD s 0 0 ≡ 37 → plainOf s g ps ≡ percentOf (rest s) Letter g ps
-    unfolding plainOf
-    plain-sign e = ap (λ (l : List ℕ). plainOf l g ps) (parts s n) ∙ rw (eq-eqb _ _ e)
-
-    pub plain-byte : (getD s 0 0 ≡ 37 → ⊥) → plainOf s g ps ≡ then (getD s 0 0 ∷ []) (plainOf (rest s) g ps)
-    unfolding plainOf
-    plain-byte e = ap (λ (l : List ℕ). plainOf l g ps) (parts s n) ∙ rw (ne-eqb _ _ e)
-
   -- Within a sequence, of which w is still to be read.
   module _ (w : Pending) where
     pub percent-none : length s ≡ 0 → percentOf s w g ps ≡ refused UnknownSequence

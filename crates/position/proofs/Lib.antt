@@ -1,5 +1,6 @@
-pub mod FillSteps
-pub mod OutputSizes
 pub mod DigitWriting
-pub mod StepLaws
+pub mod FillSteps
 pub mod OuterLoop
+pub mod OutputSizes
+pub mod RunLaws
+pub mod StepLaws

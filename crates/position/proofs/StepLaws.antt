@@ -4,9 +4,9 @@ use mathlib.Core.List.{List, [], _∷_, _++_, append-assoc}
 use Prim.Native.Nat.{ℕ, suc, _+_, _-_, _<_, _≤_}
 use native.Mathlib.Nat.{add-zero}
 use native.Mathlib.Omega.{arith}
-use lib.ListN.{length, drop, set, length-append}
+use lib.ListN.{length, drop, set, length-drop, length-append}
 use lib.Seq.{sets, drop-drop}
-use Rattle.position.proofs.FillSteps.{rest, part-is, rest-length}
+use Rattle.position.proofs.FillSteps.{rest, part, part-is}
 use Rattle.position.specs.declared.Step.{Step}
 use Rattle.position.specs.declared.Step.the-variants.{Done, Fault, Paused}
 use Rattle.spec.specs.Position.{Filled, filled, refused, then, plainOf}
@@ -27,37 +27,42 @@ pub sets-append : (out : List ℕ) (at next : ℕ) (k l : List ℕ) → next ≡
 sets-append out at next [] l e = ap (λ (n : ℕ). sets out n l) (e ∙ add-zero at)
 sets-append out at next (x ∷ k) l e = sets-append (set out at x) (suc at) next k l (e ∙ omega arith)
 
--- What is left of what is left, counted from the end.
-left-of : (s : List ℕ) (left : ℕ) → left < length (rest s) → drop (length (rest s) - left) (rest s) ≡ drop (length s - left) s
-left-of s left h =
-    let e : length (rest s) ≡ length s - 1 = rest-length s in
-    let k : 1 + (length s - 1 - left) ≡ length s - left = omega arith in
-    ap (λ (n : ℕ). drop (n - left) (rest s)) e ∙ ap (λ (l : List ℕ). drop (length s - 1 - left) l) (part-is s 1) ∙ drop-drop (length s - 1 - left) 1 s ∙ ap (λ (n : ℕ). drop n s) k
+pub part-length : (s : List ℕ) (j : ℕ) → length (part s j) ≡ length s - j
+part-length s j = rw (part-is s j, length-drop)
 
-pub ended : (s : List ℕ) (g : Raising) (t : Filled) (ps : Parameters) (out : List ℕ) (at top : ℕ) → t ≡ filled [] ps → StepTaken s g t out at top (Done at ps) out
-ended s g t ps out at top e = ([], e, omega arith, refl)
+-- What is left of a part, counted from the end.
+left-of-part : (s : List ℕ) (j left : ℕ) → left < length (part s j) → drop (length (part s j) - left) (part s j) ≡ drop (length s - left) s
+left-of-part s j left h =
+    let e : length (part s j) ≡ length s - j = part-length s j in
+    let k : j + (length s - j - left) ≡ length s - left = omega arith in
+    ap (λ (n : ℕ). drop (n - left) (part s j)) e ∙ ap (λ (l : List ℕ). drop (length s - j - left) l) (part-is s j) ∙ drop-drop (length s - j - left) j s ∙ ap (λ (n : ℕ). drop n s) k
+
+-- Bytes w that were written, and then steps over a part of the command.
+pub went-on : (s : List ℕ) (g : Raising) (j : ℕ) (t u : Filled) (w out m : List ℕ) (at next low top : ℕ) (r : Step) (o : List ℕ)
+    → t ≡ then w u → m ≡ sets out at w → next ≡ at + length w → low ≤ top → StepTaken (part s j) g u m next low r o → StepTaken s g t out at top r o
+went-on s g j t u w out m at next low top (Done n ps) o et em en lt v = (
+  w ++ v .0,
+  et ∙ ap (then w) (v .1),
+  v .2 ∙ rw length-append (omega arith),
+  v .3 ∙ ap (λ (x : List ℕ). sets x next (v .0)) em ∙ sets-append out at next w (v .0) en,
+)
+went-on s g j t u w out m at next low top (Fault n) o et em en lt v = et ∙ ap (then w) v
+went-on s g j t u w out m at next low top (Paused left to ps) o et em en lt v =
+    let d = left-of-part s j left (v .4) in
+    let e : length (part s j) ≡ length s - j = part-length s j in (
+      w ++ v .0,
+      et ∙ ap (then w) (rw d at (v .1)) ∙ then-then w (v .0) (plainOf (drop (length s - left) s) g ps),
+      v .2 ∙ rw length-append (omega arith),
+      v .3 ∙ ap (λ (x : List ℕ). sets x next (v .0)) em ∙ sets-append out at next w (v .0) en,
+      omega (arith, v .4),
+      omega (arith, rw d at (v .5)),
+    )
 
 module _ (s : List ℕ) (g : Raising) where
   -- A step that writes k, and goes on with what is left.
   pub wrote : (t u : Filled) (k out m : List ℕ) (at next low top : ℕ) (r : Step) (o : List ℕ)
       → t ≡ then k u → m ≡ sets out at k → next ≡ at + length k → low ≤ top → StepTaken (rest s) g u m next low r o → StepTaken s g t out at top r o
-  wrote t u k out m at next low top (Done n ps) o et em en lt w = (
-    k ++ w .0,
-    et ∙ ap (then k) (w .1),
-    w .2 ∙ rw length-append (omega arith),
-    w .3 ∙ ap (λ (x : List ℕ). sets x next (w .0)) em ∙ sets-append out at next k (w .0) en,
-  )
-  wrote t u k out m at next low top (Fault n) o et em en lt w = et ∙ ap (then k) w
-  wrote t u k out m at next low top (Paused left to ps) o et em en lt w =
-      let d = left-of s left (w .4) in
-      let e : length (rest s) ≡ length s - 1 = rest-length s in (
-        k ++ w .0,
-        et ∙ ap (then k) (rw d at (w .1)) ∙ then-then k (w .0) (plainOf (drop (length s - left) s) g ps),
-        w .2 ∙ rw length-append (omega arith),
-        w .3 ∙ ap (λ (x : List ℕ). sets x next (w .0)) em ∙ sets-append out at next k (w .0) en,
-        omega (arith, w .4),
-        omega (arith, rw d at (w .5)),
-      )
+  wrote = went-on s g 1
 
   -- A step that only reads.
   pub only-read : (t u : Filled) (out : List ℕ) (at low top : ℕ) (r : Step) (o : List ℕ) → t ≡ u → low ≤ top → StepTaken (rest s) g u out at low r o → StepTaken s g t out at top r o

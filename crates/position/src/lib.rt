@@ -97,7 +97,7 @@ enum Step {
     Paused(usize, usize, Parameters),
 }
 
-// Where a plain byte or a percent sign is due.
+// Where a plain byte or a percent sign is due: a run of plain bytes up to the next sign.
 fn plain(
     command: &[u8],
     g: Raising,
@@ -109,18 +109,17 @@ fn plain(
     requires { ⌜ plainBound (now command) ps at < 2 ^ 64 ⌝ }
     ensures { λ r. ⌜ StepTaken (now (command .entry)) g (plainOf (now (command .entry)) g ps) (now (out .entry)) at (plainBound (now (command .entry)) ps at) r (now (out .exit)) ⌝ }
 {
-    if command.len() == 0 {
-        return Step::Done(at, ps);
+    let mut i = 0;
+    while i < command.len() {
+        let b = command[i];
+        if b == b'%' {
+            let k = i + 1;
+            return percent(&command[k..], Pending::Letter, g, ps, out, at + i, depth);
+        }
+        put_byte(out, at + i, b);
+        i += 1;
     }
-    let b = command[0];
-    if b == b'%' {
-        return percent(&command[1..], Pending::Letter, g, ps, out, at, depth);
-    }
-    put_byte(out, at, b);
-    if depth == 0 {
-        return Step::Paused(command.len() - 1, at + 1, ps);
-    }
-    plain(&command[1..], g, ps, out, at + 1, depth - 1)
+    Step::Done(at + i, ps)
 }
 
 // Within a percent sequence, of which so much is still to be read.

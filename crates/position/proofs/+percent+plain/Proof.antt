@@ -1,14 +1,14 @@
 -- `position::plain` and `position::percent` meet their contracts. The measure of both is the length of the command that is left: each call
--- is on the part after the first byte. A step is one law: the empty command, a byte that is only read, one that writes, a pause. Assumes nothing.
+-- is on a part after at least one byte. A run is a loop; a step is one law: a byte that is only read, one that writes, a pause. Assumes nothing.
 use borrow.Author.Needs.{needs}
 use native.Mathlib.Omega.{arith}
 use mathlib.Core.Path.{sym, _∙_}
-use mathlib.Core.List.{[], _∷_}
-use lib.ListN.{length, getD}
-use Rattle.position.proofs.FillSteps.{rest-length, plain-none, plain-sign, plain-byte, percent-none, percent-more, percent-unknown, percent-stops}
+use lib.ListN.{length}
+use Rattle.position.proofs.FillSteps.{rest-length, percent-none, percent-more, percent-unknown, percent-stops}
 use Rattle.position.proofs.OutputSizes.{Gave, gives}
-use Rattle.position.proofs.StepLaws.{ended, only-read, wrote, paused}
-use Prim.Native.Nat.{ℕ, _<_}
+use Rattle.position.proofs.RunLaws.{Run, run-first, one-more, at-next-sign, at-last}
+use Rattle.position.proofs.StepLaws.{only-read, wrote, paused}
+use Prim.Native.Nat.{ℕ, _-_, _<_}
 use borrow.Fn.Kinds.{In}
 use borrow.Fn.PlainCycle.{Measures, is, falls, and}
 use Rattle.position.proofs.percent.Reads as percent
@@ -47,7 +47,7 @@ abbrev percent-claims : ℕ → percent-lts.Claims
 percent-claims t = (read-byte-reads.Asked, read-byte-reads.Learnt, percent-below t, percent.Post, perform-reads.Asked, perform-reads.Learnt, write-output-reads.Asked, write-output-reads.Learnt, plain-below t, plain.Post)
 
 abbrev plain-claims : ℕ → plain-lts.Claims
-plain-claims t = (percent-below t, percent.Post, put-byte-reads.Asked, put-byte-reads.Learnt, plain-below t, plain.Post)
+plain-claims t = (percent-below t, percent.Post, put-byte-reads.Asked, put-byte-reads.Learnt)
 
 -- Where a whole sequence gave its effect.
 gave : (t : ℕ) (c : percent-lts.After-effect2 (percent-claims t) (percent-at t) percent.Post)
@@ -184,85 +184,76 @@ percent-returns-6 t c =
     let x = c .before .before .before .before .before .before .before .before .write-output .ensures in
     wrote s (a .g) _ _ _ (a .out .now) _ (a .at) _ _ _ (c .before .before .plain .result) _ (step .step) (x .1) (x .0) (omega (arith, x .0, step .fits)) (c .before .before .plain .ensures)
 
-plain-returns : (t : ℕ) → plain-lts.Need-returns (plain-claims t) (plain-at t) plain.Post
-plain-returns t c =
-    let a = c .before .before .before .args in
-    ended (a .command .now) (a .g) _ (a .ps) (a .out .now) (a .at) 0 (plain-none (a .command .now) (a .g) (a .ps) (c .if1 .taken))
+abbrev plain-Inv-loop : plain-lts.InvT-loop
+plain-Inv-loop command g ps out₀ at depth i₀ out i = Run command g ps out₀ at out i
 
-plain-shared-slice-read-b : (t : ℕ) → plain-lts.Need-shared-slice-read-b (plain-claims t) (plain-at t) plain.Post
+abbrev plain-μ-loop : plain-lts.MeasureT-loop
+plain-μ-loop command g ps out₀ at depth i₀ out i = length command - i
+
+plain-loop-holds : (t : ℕ) → plain-lts.Need-loop-holds (plain-claims t) (plain-at t) plain.Post plain-Inv-loop plain-μ-loop
+plain-loop-holds t c =
+    let a = c .before .before .args in
+    run-first (a .command .now) (a .g) (a .ps) (a .out .now) (a .at)
+
+plain-shared-slice-read-b : (t : ℕ) → plain-lts.Need-shared-slice-read-b (plain-claims t) (plain-at t) plain.Post plain-Inv-loop plain-μ-loop
 plain-shared-slice-read-b t c = search needs
 
-plain-sub-percent : (t : ℕ) → plain-lts.Need-sub-percent (plain-claims t) (plain-at t) plain.Post
+plain-add-k : (t : ℕ) → plain-lts.Need-add-k (plain-claims t) (plain-at t) plain.Post plain-Inv-loop plain-μ-loop
+plain-add-k t c = search needs
+
+plain-sub-percent : (t : ℕ) → plain-lts.Need-sub-percent (plain-claims t) (plain-at t) plain.Post plain-Inv-loop plain-μ-loop
 plain-sub-percent t c = search needs
 
-plain-part-percent-start : (t : ℕ) → plain-lts.Need-part-percent-start (plain-claims t) (plain-at t) plain.Post
+plain-part-percent-start : (t : ℕ) → plain-lts.Need-part-percent-start (plain-claims t) (plain-at t) plain.Post plain-Inv-loop plain-μ-loop
 plain-part-percent-start t c = search needs
 
-plain-part-percent-end : (t : ℕ) → plain-lts.Need-part-percent-end (plain-claims t) (plain-at t) plain.Post
+plain-part-percent-end : (t : ℕ) → plain-lts.Need-part-percent-end (plain-claims t) (plain-at t) plain.Post plain-Inv-loop plain-μ-loop
 plain-part-percent-end t c = search needs
 
-plain-percent-requires : (t : ℕ) → plain-lts.Need-percent-requires (plain-claims t) (plain-at t) plain.Post
+plain-add-percent : (t : ℕ) → plain-lts.Need-add-percent (plain-claims t) (plain-at t) plain.Post plain-Inv-loop plain-μ-loop
+plain-add-percent t c = search needs
+
+plain-percent-requires : (t : ℕ) → plain-lts.Need-percent-requires (plain-claims t) (plain-at t) plain.Post plain-Inv-loop plain-μ-loop
 plain-percent-requires t c κs = search needs
 
-plain-same-length : (t : ℕ) → plain-lts.Need-same-length (plain-claims t) (plain-at t) plain.Post
-plain-same-length t c = search needs
+plain-same-length : (t : ℕ) → plain-lts.Need-same-length (plain-claims t) (plain-at t) plain.Post plain-Inv-loop plain-μ-loop
+plain-same-length t c = c .before .before .percent .kept .1 .1 .1 .1 .0 ∙ c .before .before .before .before .before .before .before .before .loop .inv .same
 
-plain-returns-2 : (t : ℕ) → plain-lts.Need-returns-2 (plain-claims t) (plain-at t) plain.Post
-plain-returns-2 t c =
-    let a = c .before .before .before .before .before .before .before .before .before .before .args in
-    let s = a .command .now in
-    let n = c .before .before .before .before .before .before .before .if1 .left in
-    let short = rest-length s in
-    only-read s (a .g) _ _ (a .out .now) (a .at) _ _ (c .before .before .percent .result) _ (plain-sign s (a .g) (a .ps) n (c .before .before .before .before .before .if2 .taken)) (omega arith) (c .before .before .percent .ensures)
+plain-returns : (t : ℕ) → plain-lts.Need-returns (plain-claims t) (plain-at t) plain.Post plain-Inv-loop plain-μ-loop
+plain-returns t c =
+    let a = c .before .before .before .before .before .before .before .before .before .before .before .args in
+    let l = c .before .before .before .before .before .before .before .before .loop in
+    at-next-sign (a .command .now) (a .g) (a .ps) (a .out .now) (a .at) (l .out) (l .i) (l .inv) (c .before .before .before .before .before .before .before .loop-test .taken) (c .before .before .before .before .before .if1 .taken) (c .before .before .percent .result) _ (c .before .before .percent .ensures)
 
-plain-put-byte-requires : (t : ℕ) → plain-lts.Need-put-byte-requires (plain-claims t) (plain-at t) plain.Post
+plain-add-put-byte : (t : ℕ) → plain-lts.Need-add-put-byte (plain-claims t) (plain-at t) plain.Post plain-Inv-loop plain-μ-loop
+plain-add-put-byte t c = search needs
+
+plain-put-byte-requires : (t : ℕ) → plain-lts.Need-put-byte-requires (plain-claims t) (plain-at t) plain.Post plain-Inv-loop plain-μ-loop
 plain-put-byte-requires t c κs = search needs
 
-plain-sub-t23 : (t : ℕ) → plain-lts.Need-sub-t23 (plain-claims t) (plain-at t) plain.Post
-plain-sub-t23 t c = search needs
+plain-add-i : (t : ℕ) → plain-lts.Need-add-i (plain-claims t) (plain-at t) plain.Post plain-Inv-loop plain-μ-loop
+plain-add-i t c = search needs
 
-plain-add-t24 : (t : ℕ) → plain-lts.Need-add-t24 (plain-claims t) (plain-at t) plain.Post
-plain-add-t24 t c = search needs
+plain-loop-less : (t : ℕ) → plain-lts.Need-loop-less (plain-claims t) (plain-at t) plain.Post plain-Inv-loop plain-μ-loop
+plain-loop-less t c = search needs
 
-plain-same-length-2 : (t : ℕ) → plain-lts.Need-same-length-2 (plain-claims t) (plain-at t) plain.Post
-plain-same-length-2 t c = search needs
-
-plain-returns-3 : (t : ℕ) → plain-lts.Need-returns-3 (plain-claims t) (plain-at t) plain.Post
-plain-returns-3 t c =
+plain-loop-again : (t : ℕ) → plain-lts.Need-loop-again (plain-claims t) (plain-at t) plain.Post plain-Inv-loop plain-μ-loop
+plain-loop-again t c =
     let a = c .before .before .before .before .before .before .before .before .before .before .args in
-    let s = a .command .now in
-    let n = c .before .before .before .before .before .before .before .if1 .left in
-    let short = rest-length s in
-    paused s (a .g) n _ (getD s 0 0 ∷ []) (a .out .now) _ (a .at) _ _ (a .ps) (plain-byte s (a .g) (a .ps) n (c .before .before .before .before .before .if2 .left)) (c .before .before .before .put-byte .ensures) (omega arith) (omega arith)
+    let l = c .before .before .before .before .before .before .before .loop in
+    one-more (a .command .now) (a .g) (a .ps) (a .out .now) (a .at) (l .out) (l .i) (l .inv) (c .before .before .before .before .before .before .loop-test .taken) (c .before .before .before .before .if1 .left) (c .before .before .put-byte .last .0) (c .before .before .put-byte .ensures)
 
-plain-sub-plain : (t : ℕ) → plain-lts.Need-sub-plain (plain-claims t) (plain-at t) plain.Post
-plain-sub-plain t c = search needs
+plain-add-t25 : (t : ℕ) → plain-lts.Need-add-t25 (plain-claims t) (plain-at t) plain.Post plain-Inv-loop plain-μ-loop
+plain-add-t25 t c = search needs
 
-plain-part-plain-start : (t : ℕ) → plain-lts.Need-part-plain-start (plain-claims t) (plain-at t) plain.Post
-plain-part-plain-start t c = search needs
+plain-same-length-2 : (t : ℕ) → plain-lts.Need-same-length-2 (plain-claims t) (plain-at t) plain.Post plain-Inv-loop plain-μ-loop
+plain-same-length-2 t c = c .before .loop .inv .same
 
-plain-part-plain-end : (t : ℕ) → plain-lts.Need-part-plain-end (plain-claims t) (plain-at t) plain.Post
-plain-part-plain-end t c = search needs
-
-plain-add-plain : (t : ℕ) → plain-lts.Need-add-plain (plain-claims t) (plain-at t) plain.Post
-plain-add-plain t c = search needs
-
-plain-sub-plain-2 : (t : ℕ) → plain-lts.Need-sub-plain-2 (plain-claims t) (plain-at t) plain.Post
-plain-sub-plain-2 t c = search needs
-
-plain-plain-requires : (t : ℕ) → plain-lts.Need-plain-requires (plain-claims t) (plain-at t) plain.Post
-plain-plain-requires t c κs = search needs
-
-plain-same-length-3 : (t : ℕ) → plain-lts.Need-same-length-3 (plain-claims t) (plain-at t) plain.Post
-plain-same-length-3 t c = search needs
-
-plain-returns-4 : (t : ℕ) → plain-lts.Need-returns-4 (plain-claims t) (plain-at t) plain.Post
-plain-returns-4 t c =
-    let a = c .before .before .before .before .before .before .before .before .before .before .before .before .before .before .before .args in
-    let s = a .command .now in
-    let n = c .before .before .before .before .before .before .before .before .before .before .before .before .if1 .left in
-    let short = rest-length s in
-    wrote s (a .g) _ _ (getD s 0 0 ∷ []) (a .out .now) _ (a .at) _ _ _ (c .before .before .plain .result) _ (plain-byte s (a .g) (a .ps) n (c .before .before .before .before .before .before .before .before .before .before .if2 .left)) (c .before .before .before .before .before .before .before .before .put-byte .ensures) (omega arith) (omega arith) (c .before .before .plain .ensures)
+plain-returns-2 : (t : ℕ) → plain-lts.Need-returns-2 (plain-claims t) (plain-at t) plain.Post plain-Inv-loop plain-μ-loop
+plain-returns-2 t c =
+    let a = c .before .before .before .before .args in
+    let l = c .before .loop in
+    at-last (a .command .now) (a .g) (a .ps) (a .out .now) (a .at) (l .out) (l .i) (l .inv) (c .loop-test .left) 0
 
 pub +percent+plain-spec : {M : Type 1} → statement M
 +percent+plain-spec = close μ-percent μ-plain (λ t. percent-lts.spec (percent-claims t)
@@ -300,24 +291,23 @@ pub +percent+plain-spec : {M : Type 1} → statement M
     (plain-claims t)
     (plain-at t)
     plain.Post
-    (plain-returns t)
+    plain-Inv-loop
+    plain-μ-loop
+    (plain-loop-holds t)
     (plain-shared-slice-read-b t)
+    (plain-add-k t)
     (plain-sub-percent t)
     (plain-part-percent-start t)
     (plain-part-percent-end t)
+    (plain-add-percent t)
     (plain-percent-requires t)
     (plain-same-length t)
-    (plain-returns-2 t)
+    (plain-returns t)
+    (plain-add-put-byte t)
     (plain-put-byte-requires t)
-    (plain-sub-t23 t)
-    (plain-add-t24 t)
+    (plain-add-i t)
+    (plain-loop-less t)
+    (plain-loop-again t)
+    (plain-add-t25 t)
     (plain-same-length-2 t)
-    (plain-returns-3 t)
-    (plain-sub-plain t)
-    (plain-part-plain-start t)
-    (plain-part-plain-end t)
-    (plain-add-plain t)
-    (plain-sub-plain-2 t)
-    (plain-plain-requires t)
-    (plain-same-length-3 t)
-    (plain-returns-4 t)
+    (plain-returns-2 t)
