@@ -6,10 +6,18 @@ use native.Mathlib.Numerals.{add-one}
 use native.Mathlib.Omega.{arith}
 use lib.ListN.{length, take, getD, set, length-append, drop-of-length-le}
 use lib.Seq.{sets, length-take-le, take-suc}
-use Rattle.spec.specs.Position.{compensation, repeated}
-use Rattle.spec.specs.declared.position.Parameter.{Parameter}
+use mathlib.Core.Bool.{true}
+use lib.Dec.{eqb}
+use borrow.Author.Tests.{eqb-true}
+use Rattle.spec.specs.Choice.{both}
+use Rattle.spec.proofs.Tests.{both-true}
+use Rattle.spec.specs.Position.{compensation, compensations, repeated}
 use Rattle.spec.specs.declared.position.Parameter.the-variants.{Column as OfColumn}
 use Rattle.spec.specs.declared.position.Column.{Column}
+use Rattle.places.specs.Places.{inTurn, parametersOf}
+use Rattle.places.specs.declared.Places.{Places}
+use Rattle.places.specs.declared.Turn.{Turn}
+use Rattle.places.specs.declared.Turn.the-variants.{RowColumn, ColumnRow, ColumnLeft, RowLeft, RowFirst, ColumnFirst}
 use Rattle.position.proofs.FillSteps.{parts}
 use Rattle.position.proofs.StepLaws.{sets-append}
 use Rattle.compensations.specs.Appending.{BytesAppended}
@@ -79,9 +87,27 @@ module _ (l : List ℕ) (capacity : ℕ) (out₀ : List ℕ) (at count : ℕ) wh
 
 -- ---- the compensation for a column
 
-module _ (back up : List ℕ) (p : Parameter) (c : Column) (e : p ≡ OfColumn c) where
-  pub empty-back : length back ≡ 0 → compensation back up p ≡ 8 ∷ []
-  empty-back h = ap (compensation back up) e ∙ rw (drop-of-length-le back {i = 0} (omega arith))
+module _ (back up : List ℕ) (c : Column) where
+  pub empty-back : length back ≡ 0 → compensation back up (OfColumn c) ≡ 8 ∷ []
+  empty-back h = rw (drop-of-length-le back {i = 0} (omega arith))
 
-  pub given-back : (length back ≡ 0 → ⊥) → compensation back up p ≡ back
-  given-back h = ap (compensation back up) e ∙ rw (parts back h)
+  pub given-back : (length back ≡ 0 → ⊥) → compensation back up (OfColumn c) ≡ back
+  given-back h = rw (parts back h)
+
+-- ---- no compensation is owed
+
+module _ (back up : List ℕ) (s : Places) (row : s .ups ≡ 0) (column : s .backs ≡ 0) where
+  settled-in : (t : Turn) → compensations back up (inTurn t s) ≡ []
+  unfolding compensations repeated
+  settled-in RowColumn = refl
+  settled-in ColumnRow = refl
+  settled-in ColumnLeft = rw row
+  settled-in RowLeft = rw column
+  settled-in RowFirst = rw (row, column)
+  settled-in ColumnFirst = rw (column, row)
+
+pub settled : (back up : List ℕ) (s : Places) → both (eqb (s .ups) 0) (eqb (s .backs) 0) ≡ true → compensations back up (parametersOf s) ≡ []
+unfolding parametersOf
+settled back up s e =
+    let t = both-true (eqb (s .ups) 0) (eqb (s .backs) 0) e in
+    settled-in back up s (eqb-true _ _ (t .0)) (eqb-true _ _ (t .1)) (s .turn)

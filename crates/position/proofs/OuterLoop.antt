@@ -14,6 +14,8 @@ use Rattle.spec.specs.Position.{then, plainOf}
 use Rattle.position.specs.Filling.{unused, StepTaken, BodyFilled}
 use Rattle.spec.specs.declared.Refusal.{Refusal}
 use Rattle.spec.specs.declared.position.Raising.{Raising}
+use Rattle.places.specs.Places.{parametersOf}
+use Rattle.places.specs.declared.Places.{Places}
 use Rattle.spec.specs.declared.position.Parameters.{Parameters}
 use Rattle.spec.specs.declared.position.Parameters.the-variants.{TwoUnused, OneUnused, AllUsed}
 
@@ -52,7 +54,7 @@ module _ (cmd : List ℕ) (g : Raising) (first : Parameters) (out₀ out : List 
   whole = good .gives ∙ ap (λ (l : List ℕ). then (good .wrote) (plainOf l g ps)) (sym (part-is cmd from))
 
   module _ (top : ℕ) (r : Step) (o : List ℕ) (w : StepTaken handed g (plainOf handed g ps) out at top r o) where
-    pub fill-done : (n : ℕ) (qs : Parameters) → r ≡ Done n qs → BodyFilled (plainOf cmd g first) out₀ (At n qs) o
+    pub fill-done : (n : ℕ) (qs : Places) → r ≡ Done n qs → BodyFilled (plainOf cmd g first) out₀ (At n qs) o
     fill-done n qs e =
         let v : StepTaken handed g (plainOf handed g ps) out at top (Done n qs) o = subst (λ (x : Step). StepTaken handed g (plainOf handed g ps) out at top x o) e w in
         let p = good .place in (
@@ -67,13 +69,13 @@ module _ (cmd : List ℕ) (g : Raising) (first : Parameters) (out₀ out : List 
         let v : StepTaken handed g (plainOf handed g ps) out at top (Fault n) o = subst (λ (x : Step). StepTaken handed g (plainOf handed g ps) out at top x o) e w in
         whole ∙ ap (then (good .wrote)) v
 
-    pub fill-falls : (l next : ℕ) (qs : Parameters) → r ≡ Paused l next qs → l < left
+    pub fill-falls : (l next : ℕ) (qs : Places) → r ≡ Paused l next qs → l < left
     fill-falls l next qs e =
         let v : StepTaken handed g (plainOf handed g ps) out at top (Paused l next qs) o = subst (λ (x : Step). StepTaken handed g (plainOf handed g ps) out at top x o) e w in
         let k = handed-length in
         omega (arith, v .4)
 
-    pub fill-again : (l next : ℕ) (qs : Parameters) → r ≡ Paused l next qs → length o ≡ length out → top ≡ at + left + 3 * unused ps → FilledSoFar cmd g first out₀ o l next qs
+    pub fill-again : (l next : ℕ) (qs : Places) → r ≡ Paused l next qs → length o ≡ length out → top ≡ at + left + 3 * unused ps → FilledSoFar cmd g first out₀ o l next (parametersOf qs)
     fill-again l next qs e same top-is =
         let v : StepTaken handed g (plainOf handed g ps) out at top (Paused l next qs) o = subst (λ (x : Step). StepTaken handed g (plainOf handed g ps) out at top x o) e w in
         let k = handed-length in
@@ -86,7 +88,7 @@ module _ (cmd : List ℕ) (g : Raising) (first : Parameters) (out₀ out : List 
         record {
           within = omega (arith, good .within);
           wrote = good .wrote ++ v .0;
-          gives = whole ∙ ap (then (good .wrote)) (rw d at (v .1)) ∙ then-then (good .wrote) (v .0) (plainOf (drop (length cmd - l) cmd) g qs);
+          gives = whole ∙ ap (then (good .wrote)) (rw d at (v .1)) ∙ then-then (good .wrote) (v .0) (plainOf (drop (length cmd - l) cmd) g (parametersOf qs));
           place = v .2 ∙ rw length-append (omega arith);
           stored = v .3 ∙ ap (λ (x : List ℕ). sets x at (v .0)) (good .stored) ∙ sets-append out₀ 0 at (good .wrote) (v .0) (omega arith);
           below = omega (arith, v .5, size, good .below);

@@ -16,6 +16,8 @@ use Rattle.position.specs.Filling.{percentBound, plainBound, StepTaken}
 use Rattle.spec.specs.declared.position.Raising.{Raising}
 use Rattle.spec.specs.declared.position.Parameters.{Parameters}
 use Rattle.spec.specs.declared.position.Pending.the-variants.{Letter}
+use Rattle.places.specs.Places.{parametersOf}
+use Rattle.places.specs.declared.Places.{Places}
 
 -- The loop over a run: i bytes were written, and the whole gives them and what those from i on give.
 pub record Run (s : List ℕ) (g : Raising) (ps : Parameters) (out₀ : List ℕ) (at : ℕ) (out : List ℕ) (i : ℕ) : Type 0 where
@@ -64,10 +66,10 @@ module _ (s : List ℕ) (g : Raising) (ps : Parameters) (out₀ : List ℕ) (at 
       let t : plainOf (drop i s) g ps ≡ percentOf (part s (i + 1)) Letter g ps = at-sign l e ∙ ap (λ (x : List ℕ). percentOf x Letter g ps) (sym (part-is s (i + 1))) in
       went-on s g (i + 1) (plainOf s g ps) (percentOf (part s (i + 1)) Letter g ps) (run .wrote) out₀ out at (at + i) _ _ r o (run .gives ∙ ap (then (run .wrote)) t) (run .stored) place (omega arith) v
 
-  pub at-last : length s ≤ i → (top : ℕ) → StepTaken s g (plainOf s g ps) out₀ at top (Done (at + i) ps) out
-  at-last l top = (
+  pub at-last : length s ≤ i → (top : ℕ) (q : Places) → ps ≡ parametersOf q → StepTaken s g (plainOf s g ps) out₀ at top (Done (at + i) q) out
+  at-last l top q e = (
     run .wrote,
-    run .gives ∙ ap (then (run .wrote)) (at-end l) ∙ ap (λ (x : List ℕ). filled x ps) (append-nil (run .wrote)),
+    run .gives ∙ ap (then (run .wrote)) (at-end l) ∙ ap (λ (x : List ℕ). filled x ps) (append-nil (run .wrote)) ∙ ap (filled (run .wrote)) e,
     place,
     run .stored,
   )

@@ -12,7 +12,8 @@ use Rattle.position.specs.declared.Step.the-variants.{Done, Fault, Pause
 use Rattle.spec.specs.Position.{Filled, filled, refused, then, plainOf}
 use Rattle.position.specs.Filling.{plainBound, StepTaken}
 use Rattle.spec.specs.declared.position.Raising.{Raising}
-use Rattle.spec.specs.declared.position.Parameters.{Parameters}
+use Rattle.places.specs.Places.{parametersOf}
+use Rattle.places.specs.declared.Places.{Places}
 
 pub then-then : (k l : List ℕ) (t : Filled) → then k (then l t) ≡ then (k ++ l) t
 then-then k l (filled m ps) = ap (λ (x : List ℕ). filled x ps) (sym (append-assoc k l m))
@@ -51,7 +52,7 @@ went-on s g j t u w out m at next low top (Paused left to ps) o et em en lt v =
     let d = left-of-part s j left (v .4) in
     let e : length (part s j) ≡ length s - j = part-length s j in (
       w ++ v .0,
-      et ∙ ap (then w) (rw d at (v .1)) ∙ then-then w (v .0) (plainOf (drop (length s - left) s) g ps),
+      et ∙ ap (then w) (rw d at (v .1)) ∙ then-then w (v .0) (plainOf (drop (length s - left) s) g (parametersOf ps)),
       v .2 ∙ rw length-append (omega arith),
       v .3 ∙ ap (λ (x : List ℕ). sets x next (v .0)) em ∙ sets-append out at next w (v .0) en,
       omega (arith, v .4),
@@ -69,8 +70,8 @@ module _ (s : List ℕ) (g : Raising) where
   only-read t u out at low top r o et lt w = wrote t u [] out out at at low top r o (et ∙ sym (then-none u)) refl (omega arith) lt w
 
   -- A step that writes k, and pauses.
-  pub paused : (n : length s ≡ 0 → ⊥) (t : Filled) (k out m : List ℕ) (at next top : ℕ) (ps : Parameters)
-      → t ≡ then k (plainOf (rest s) g ps) → m ≡ sets out at k → next ≡ at + length k → plainBound (rest s) ps next ≤ top
+  pub paused : (n : length s ≡ 0 → ⊥) (t : Filled) (k out m : List ℕ) (at next top : ℕ) (ps : Places)
+      → t ≡ then k (plainOf (rest s) g (parametersOf ps)) → m ≡ sets out at k → next ≡ at + length k → plainBound (rest s) (parametersOf ps) next ≤ top
       → StepTaken s g t out at top (Paused (length s - 1) next ps) m
   paused n t k out m at next top ps et em en lt =
       let one : length s - (length s - 1) ≡ 1 = omega arith in

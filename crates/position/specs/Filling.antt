@@ -8,6 +8,7 @@ use Rattle.spec.specs.Position.{Filled, filled, refused, then, plainOf}
 use Rattle.spec.specs.declared.position.Raising.{Raising}
 use Rattle.spec.specs.declared.position.Parameters.{Parameters}
 use Rattle.spec.specs.declared.position.Parameters.the-variants.{TwoUnused, OneUnused, AllUsed}
+use Rattle.places.specs.Places.{parametersOf}
 use Rattle.position.specs.declared.BodyEnd.{BodyEnd}
 use Rattle.position.specs.declared.BodyEnd.the-variants.{At, Refused}
 use Rattle.position.specs.declared.Step.{Step}
@@ -30,17 +31,17 @@ percentBound s ps at = at + length s + 1 + 3 * unused ps
 -- Steps over s, which is to give t, into a buffer from a place on. Done: l was written there, and t is l. A fault: t is that. A pause: l
 -- was written there, `left` bytes of s are to go, and t is l and then what those give.
 abbrev pub StepTaken : List ℕ → Raising → Filled → List ℕ → ℕ → ℕ → Step → List ℕ → Type 0
-StepTaken s g t out at bound (Done end ps) o = (l : List ℕ) × (t ≡ filled l ps) × (end ≡ at + length l) × (o ≡ sets out at l)
+StepTaken s g t out at bound (Done end ps) o = (l : List ℕ) × (t ≡ filled l (parametersOf ps)) × (end ≡ at + length l) × (o ≡ sets out at l)
 StepTaken s g t out at bound (Fault r) o = t ≡ refused r
 StepTaken s g t out at bound (Paused left end ps) o =
     (l : List ℕ)
-    × (t ≡ then l (plainOf (drop (length s - left) s) g ps))
+    × (t ≡ then l (plainOf (drop (length s - left) s) g (parametersOf ps)))
     × (end ≡ at + length l)
     × (o ≡ sets out at l)
     × (left < length s)
-    × (plainBound (drop (length s - left) s) ps end ≤ bound)
+    × (plainBound (drop (length s - left) s) (parametersOf ps) end ≤ bound)
 
 -- A body that is to give t, filled into a buffer from its start on.
 abbrev pub BodyFilled : Filled → List ℕ → BodyEnd → List ℕ → Type 0
-BodyFilled t out (At end ps) o = (l : List ℕ) × (t ≡ filled l ps) × (end ≡ length l) × (o ≡ sets out 0 l)
+BodyFilled t out (At end ps) o = (l : List ℕ) × (t ≡ filled l (parametersOf ps)) × (end ≡ length l) × (o ≡ sets out 0 l)
 BodyFilled t out (Refused r) o = t ≡ refused r

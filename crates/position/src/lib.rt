@@ -6,13 +6,14 @@ ghost use lib.Seq.{sets};
 ghost use Rattle.spec.specs.Digits.{spell, Fewest};
 ghost use Rattle.spec.specs.Sequences.{outputBytes};
 ghost use Rattle.spec.specs.Position.{plainOf, percentOf};
+ghost use Rattle.places.specs.Places.{parametersOf};
 ghost use Rattle.position.specs.Filling.{plainBound, percentBound, StepTaken, BodyFilled};
+use places::Places;
+use sequences::Performed;
 use sequences::perform;
 use sequences::read_byte;
 use spec::Refusal;
-use spec::position::Effect;
 use spec::position::Output;
-use spec::position::Parameters;
 use spec::position::Pending;
 use spec::position::Progress;
 use spec::position::Raising;
@@ -92,22 +93,15 @@ fn write_output(x: Output, out: &mut [u8], at: usize) -> usize
 
 // How far the steps came: to the end, at a place and with these parameters; to a fault; or to a pause, with so many bytes left.
 enum Step {
-    Done(usize, Parameters),
+    Done(usize, Places),
     Fault(Refusal),
-    Paused(usize, usize, Parameters),
+    Paused(usize, usize, Places),
 }
 
 // Where a plain byte or a percent sign is due: a run of plain bytes up to the next sign.
-fn plain(
-    command: &[u8],
-    g: Raising,
-    ps: Parameters,
-    out: &mut [u8],
-    at: usize,
-    depth: usize,
-) -> Step
-    requires { ⌜ plainBound (now command) ps at < 2 ^ 64 ⌝ }
-    ensures { λ r. ⌜ StepTaken (now (command .entry)) g (plainOf (now (command .entry)) g ps) (now (out .entry)) at (plainBound (now (command .entry)) ps at) r (now (out .exit)) ⌝ }
+fn plain(command: &[u8], g: Raising, ps: Places, out: &mut [u8], at: usize, depth: usize) -> Step
+    requires { ⌜ plainBound (now command) (parametersOf ps) at < 2 ^ 64 ⌝ }
+    ensures { λ r. ⌜ StepTaken (now (command .entry)) g (plainOf (now (command .entry)) g (parametersOf ps)) (now (out .entry)) at (plainBound (now (command .entry)) (parametersOf ps) at) r (now (out .exit)) ⌝ }
 {
     let mut i = 0;
     while i < command.len() {
@@ -127,13 +121,13 @@ fn percent(
     command: &[u8],
     pending: Pending,
     g: Raising,
-    ps: Parameters,
+    ps: Places,
     out: &mut [u8],
     at: usize,
     depth: usize,
 ) -> Step
-    requires { ⌜ percentBound (now command) ps at < 2 ^ 64 ⌝ }
-    ensures { λ r. ⌜ StepTaken (now (command .entry)) g (percentOf (now (command .entry)) pending g ps) (now (out .entry)) at (percentBound (now (command .entry)) ps at) r (now (out .exit)) ⌝ }
+    requires { ⌜ percentBound (now command) (parametersOf ps) at < 2 ^ 64 ⌝ }
+    ensures { λ r. ⌜ StepTaken (now (command .entry)) g (percentOf (now (command .entry)) pending g (parametersOf ps)) (now (out .entry)) at (percentBound (now (command .entry)) (parametersOf ps) at) r (now (out .exit)) ⌝ }
 {
     if command.len() == 0 {
         return Step::Fault(Refusal::UnknownSequence);
@@ -145,8 +139,8 @@ fn percent(
         Progress::Whole(sequence) => {
             let effect = perform(g, sequence, ps);
             match effect {
-                Effect::Refused(r) => return Step::Fault(r),
-                Effect::Gives(x, qs) => {
+                Performed::Refused(r) => return Step::Fault(r),
+                Performed::Gives(x, qs) => {
                     let end = write_output(x, out, at);
                     if depth == 0 {
                         return Step::Paused(command.len() - 1, end, qs);
@@ -160,13 +154,13 @@ fn percent(
 
 // A body filled in: the place after its bytes, and the parameters as it leaves them; or its first fault.
 pub enum BodyEnd {
-    At(usize, Parameters),
+    At(usize, Places),
     Refused(Refusal),
 }
 
 // Fills a body in from the start of the buffer on; with an empty part of it, only measures.
-pub fn fill_body(command: &[u8], g: Raising, first: Parameters, out: &mut [u8]) -> BodyEnd
-    ensures { λ r. ⌜ BodyFilled (plainOf (now (command .entry)) g first) (now (out .entry)) r (now (out .exit)) ⌝ }
+pub fn fill_body(command: &[u8], g: Raising, first: Places, out: &mut [u8]) -> BodyEnd
+    ensures { λ r. ⌜ BodyFilled (plainOf (now (command .entry)) g (parametersOf first)) (now (out .entry)) r (now (out .exit)) ⌝ }
 {
     let mut left = command.len();
     let mut at = 0;

@@ -9,17 +9,18 @@ ghost use Rattle.spec.specs.Choice.{both};
 ghost use Rattle.spec.specs.Padding.{delayFor, padCount};
 ghost use Rattle.spec.specs.Position.{atPlace, fillIn};
 ghost use Rattle.spec.specs.Sending.{goodSpeed, goodPlace, sends, delivered, sendOutcome, sendAtOutcome};
+ghost use Rattle.places.specs.Places.{parametersOf};
 ghost use Rattle.sending.specs.Steps.{CommandJudged, withPads};
 use compensations::FilledIn;
 use compensations::fill_in;
 use padding::Prefix;
 use padding::pad_count;
 use padding::read_prefix;
+use places::Places;
+use places::both_unused;
 use spec::Refusal;
 use spec::Written;
 use spec::position::Column;
-use spec::position::Parameter;
-use spec::position::Parameters;
 use spec::position::Row;
 
 // ---- the inputs and the pads
@@ -152,14 +153,11 @@ pub fn send(command: &[u8], lines: u64, speed: u64, pad: u8, out: &mut [u8]) -> 
 // ---- Send at
 
 // "Row is the first parameter, column the second."
-fn at_place(row: u64, column: u64) -> Parameters
+fn at_place(row: u64, column: u64) -> Places
     requires { ⌜ (row ≤ 9999) × (column ≤ 9999) ⌝ }
-    ensures { λ r. ⌜ r ≡ atPlace row column ⌝ }
+    ensures { λ r. ⌜ parametersOf r ≡ atPlace row column ⌝ }
 {
-    Parameters::TwoUnused(
-        Parameter::Row(Row(32768 + row as u16)),
-        Parameter::Column(Column(32768 + column as u16)),
-    )
+    both_unused(Row(32768 + row as u16), Column(32768 + column as u16))
 }
 
 // So many bytes are filled in beside the buffer, and then copied.

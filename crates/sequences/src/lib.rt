@@ -1,46 +1,35 @@
 // Percent sequences: each is read byte by byte, and then done to the parameters.
 ghost use mathlib.Core.Path.{_≡_};
-ghost use Rattle.spec.specs.Values.{held, holding, raised, raises as areRaised, byteFor, inRange, changed};
-ghost use Rattle.spec.specs.Sequences.{letter, readByte, takeNext, withNext, asDecimal, asByte, changeNext, changeEvery, exchange as exchanged, perform as performed};
+ghost use Rattle.spec.specs.Values.{raised, inRange, changed};
+ghost use Rattle.spec.specs.Sequences.{letter, readByte, withNext, asDecimal, asByte, changeNext, changeEvery, exchange as exchanged, perform as doing};
+ghost use Rattle.spec.specs.declared.position.Parameter.the-variants.{Row as OfRow, Column as OfColumn};
+ghost use Rattle.places.specs.Places.{parametersOf};
+ghost use Rattle.sequences.specs.Effects.{effectOf, raisedIf, decimalEffect, byteEffect, changeEffect, changeBothEffect};
+use places::Next;
+use places::Places;
+use places::Turn;
+use places::next_parameter;
+use places::take_next;
+use places::with_column;
+use places::with_next;
+use places::with_row;
+use places::with_turn;
 use spec::Refusal;
 use spec::position::Change;
 use spec::position::Changed;
 use spec::position::Column;
-use spec::position::Effect;
 use spec::position::Output;
-use spec::position::Parameter;
-use spec::position::Parameters;
 use spec::position::Pending;
 use spec::position::Progress;
 use spec::position::Raised;
 use spec::position::Raising;
 use spec::position::Row;
 use spec::position::Sequence;
-use spec::position::Used;
 
 // How the value 0 is held.
 const ZERO: u32 = 32768;
 
-// ---- a value, its axis, and the byte that is sent for it
-
-fn held_value(p: Parameter) -> u16
-    ensures { λ h. ⌜ h ≡ held p ⌝ }
-{
-    match p {
-        Parameter::Row(r) => r.0,
-        Parameter::Column(c) => c.0,
-    }
-}
-
-// "Each keeps its axis."
-fn with_value(p: Parameter, h: u16) -> Parameter
-    ensures { λ q. ⌜ q ≡ holding p h ⌝ }
-{
-    match p {
-        Parameter::Row(r) => Parameter::Row(Row(h)),
-        Parameter::Column(c) => Parameter::Column(Column(h)),
-    }
-}
+// ---- the byte that is sent
 
 // "If a byte from `%.` or `%+` would be 0, 9 or 10 it is raised by one."
 fn raise(b: u8) -> Raised
@@ -66,20 +55,10 @@ fn raise(b: u8) -> Raised
     }
 }
 
-// By the parameter's type: a row's bytes and a column's are raised apart.
-fn is_raised(g: Raising, p: Parameter) -> bool
-    ensures { λ r. ⌜ r ≡ areRaised g p ⌝ }
+fn raise_if(raises: bool, b: u8) -> Raised
+    ensures { λ r. ⌜ r ≡ raisedIf raises b ⌝ }
 {
-    match p {
-        Parameter::Row(r) => g.rows,
-        Parameter::Column(c) => g.columns,
-    }
-}
-
-fn byte_for(g: Raising, p: Parameter, b: u8) -> Raised
-    ensures { λ r. ⌜ r ≡ byteFor g p b ⌝ }
-{
-    if is_raised(g, p) {
+    if raises {
         return raise(b);
     }
     Raised {
@@ -170,137 +149,149 @@ pub fn read_byte(pending: Pending, b: u8) -> Progress
 
 // ---- what a sequence does to the parameters
 
-// The next parameter is used up, and its byte asks for so many compensations.
-fn take_next(ps: Parameters, compensations: u8) -> Parameters
-    ensures { λ r. ⌜ r ≡ takeNext ps compensations ⌝ }
-{
-    match ps {
-        Parameters::TwoUnused(p, q) => Parameters::OneUnused(
-            Used {
-                parameter: p,
-                compensations: compensations,
-            },
-            q,
-        ),
-        Parameters::OneUnused(u, p) => Parameters::AllUsed(
-            u,
-            Used {
-                parameter: p,
-                compensations: compensations,
-            },
-        ),
-        Parameters::AllUsed(u, v) => Parameters::AllUsed(u, v),
-    }
+// What a sequence does: it writes, and leaves the parameters so; or it is refused.
+pub enum Performed {
+    Gives(Output, Places),
+    Refused(Refusal),
 }
 
 // "Negative decimals ... are 12."
-fn as_decimal(least: u8, ps: Parameters, p: Parameter) -> Effect
-    ensures { λ r. ⌜ r ≡ asDecimal least ps p ⌝ }
+fn as_decimal(least: u8, h: u16, ps: Places) -> Performed
+    ensures { λ r. ⌜ effectOf r ≡ decimalEffect least h (parametersOf ps) ⌝ }
 {
-    let h = held_value(p);
     if h < 32768 {
-        return Effect::Refused(Refusal::OutOfRange);
+        return Performed::Refused(Refusal::OutOfRange);
     }
-    Effect::Gives(Output::Number(h - 32768, least), take_next(ps, 0))
+    Performed::Gives(Output::Number(h - 32768, least), take_next(ps, 0))
 }
 
 // `%d`, `%2`, `%3`.
-fn next_as_decimal(least: u8, ps: Parameters) -> Effect
-    ensures { λ r. ⌜ r ≡ withNext ps (asDecimal least ps) ⌝ }
+fn next_as_decimal(least: u8, ps: Places) -> Performed
+    ensures { λ r. ⌜ effectOf r ≡ withNext (parametersOf ps) (asDecimal least (parametersOf ps)) ⌝ }
 {
-    match ps {
-        Parameters::TwoUnused(p, q) => as_decimal(least, ps, p),
-        Parameters::OneUnused(u, p) => as_decimal(least, ps, p),
-        Parameters::AllUsed(u, v) => Effect::Refused(Refusal::TooFewParameters),
+    let next = next_parameter(ps);
+    match next {
+        Next::Row(row) => as_decimal(least, row.0, ps),
+        Next::Column(column) => as_decimal(least, column.0, ps),
+        Next::Nothing => Performed::Refused(Refusal::TooFewParameters),
     }
 }
 
 // "Bytes outside 0..255 are 12"; "the range test comes before raising".
-fn as_byte(g: Raising, c: u8, ps: Parameters, p: Parameter) -> Effect
-    ensures { λ r. ⌜ r ≡ asByte g c ps p ⌝ }
+fn as_byte(raises: bool, c: u8, h: u16, ps: Places) -> Performed
+    ensures { λ r. ⌜ effectOf r ≡ byteEffect raises c h (parametersOf ps) ⌝ }
 {
-    let sum = held_value(p) as u32 + c as u32;
+    let sum = h as u32 + c as u32;
     if sum < ZERO {
-        return Effect::Refused(Refusal::OutOfRange);
+        return Performed::Refused(Refusal::OutOfRange);
     }
     if sum - ZERO >= 256 {
-        return Effect::Refused(Refusal::OutOfRange);
+        return Performed::Refused(Refusal::OutOfRange);
     }
-    let r = byte_for(g, p, (sum - ZERO) as u8);
-    Effect::Gives(Output::Single(r.byte), take_next(ps, r.compensations))
+    let r = raise_if(raises, (sum - ZERO) as u8);
+    Performed::Gives(Output::Single(r.byte), take_next(ps, r.compensations))
+}
+
+// By the type: a row's bytes and a column's are raised apart.
+fn row_as_byte(g: Raising, c: u8, row: Row, ps: Places) -> Performed
+    ensures { λ r. ⌜ effectOf r ≡ asByte g c (parametersOf ps) (OfRow row) ⌝ }
+{
+    as_byte(g.rows, c, row.0, ps)
+}
+
+fn column_as_byte(g: Raising, c: u8, column: Column, ps: Places) -> Performed
+    ensures { λ r. ⌜ effectOf r ≡ asByte g c (parametersOf ps) (OfColumn column) ⌝ }
+{
+    as_byte(g.columns, c, column.0, ps)
 }
 
 // `%.`, `%+c`.
-fn next_as_byte(g: Raising, c: u8, ps: Parameters) -> Effect
-    ensures { λ r. ⌜ r ≡ withNext ps (asByte g c ps) ⌝ }
+fn next_as_byte(g: Raising, c: u8, ps: Places) -> Performed
+    ensures { λ r. ⌜ effectOf r ≡ withNext (parametersOf ps) (asByte g c (parametersOf ps)) ⌝ }
 {
-    match ps {
-        Parameters::TwoUnused(p, q) => as_byte(g, c, ps, p),
-        Parameters::OneUnused(u, p) => as_byte(g, c, ps, p),
-        Parameters::AllUsed(u, v) => Effect::Refused(Refusal::TooFewParameters),
+    let next = next_parameter(ps);
+    match next {
+        Next::Row(row) => row_as_byte(g, c, row, ps),
+        Next::Column(column) => column_as_byte(g, c, column, ps),
+        Next::Nothing => Performed::Refused(Refusal::TooFewParameters),
     }
+}
+
+fn change_held(c: Change, h: u16, ps: Places) -> Performed
+    ensures { λ r. ⌜ effectOf r ≡ changeEffect c h (parametersOf ps) ⌝ }
+{
+    let Changed::To(k) = change_value(c, h) else {
+        return Performed::Refused(Refusal::OutOfRange);
+    };
+    Performed::Gives(Output::Nothing, with_next(ps, k))
 }
 
 // "On the next one."
-fn change_next(c: Change, ps: Parameters) -> Effect
-    ensures { λ r. ⌜ r ≡ changeNext c ps ⌝ }
+fn change_next(c: Change, ps: Places) -> Performed
+    ensures { λ r. ⌜ effectOf r ≡ changeNext c (parametersOf ps) ⌝ }
 {
-    match ps {
-        Parameters::TwoUnused(p, q) => {
-            let Changed::To(h) = change_value(c, held_value(p)) else {
-                return Effect::Refused(Refusal::OutOfRange);
-            };
-            Effect::Gives(Output::Nothing, Parameters::TwoUnused(with_value(p, h), q))
-        }
-        Parameters::OneUnused(u, p) => {
-            let Changed::To(h) = change_value(c, held_value(p)) else {
-                return Effect::Refused(Refusal::OutOfRange);
-            };
-            Effect::Gives(Output::Nothing, Parameters::OneUnused(u, with_value(p, h)))
-        }
-        Parameters::AllUsed(u, v) => Effect::Refused(Refusal::TooFewParameters),
+    let next = next_parameter(ps);
+    match next {
+        Next::Row(row) => change_held(c, row.0, ps),
+        Next::Column(column) => change_held(c, column.0, ps),
+        Next::Nothing => Performed::Refused(Refusal::TooFewParameters),
     }
+}
+
+// The row and the column.
+fn change_both(c: Change, ps: Places) -> Performed
+    ensures { λ r. ⌜ effectOf r ≡ changeBothEffect c ps ⌝ }
+{
+    let row = ps.row;
+    let column = ps.column;
+    let Changed::To(h) = change_value(c, row.0) else {
+        return Performed::Refused(Refusal::OutOfRange);
+    };
+    let Changed::To(k) = change_value(c, column.0) else {
+        return Performed::Refused(Refusal::OutOfRange);
+    };
+    Performed::Gives(
+        Output::Nothing,
+        with_column(with_row(ps, Row(h)), Column(k)),
+    )
 }
 
 // "To every unused parameter ... (11 for either if none is unused)."
-fn change_every(c: Change, ps: Parameters) -> Effect
-    ensures { λ r. ⌜ r ≡ changeEvery c ps ⌝ }
+fn change_every(c: Change, ps: Places) -> Performed
+    ensures { λ r. ⌜ effectOf r ≡ changeEvery c (parametersOf ps) ⌝ }
 {
-    match ps {
-        Parameters::TwoUnused(p, q) => {
-            let Changed::To(h) = change_value(c, held_value(p)) else {
-                return Effect::Refused(Refusal::OutOfRange);
-            };
-            let Changed::To(k) = change_value(c, held_value(q)) else {
-                return Effect::Refused(Refusal::OutOfRange);
-            };
-            Effect::Gives(
-                Output::Nothing,
-                Parameters::TwoUnused(with_value(p, h), with_value(q, k)),
-            )
-        }
-        Parameters::OneUnused(u, p) => change_next(c, ps),
-        Parameters::AllUsed(u, v) => Effect::Refused(Refusal::TooFewParameters),
+    let turn = ps.turn;
+    match turn {
+        Turn::RowColumn => change_both(c, ps),
+        Turn::ColumnRow => change_both(c, ps),
+        Turn::ColumnLeft => change_next(c, ps),
+        Turn::RowLeft => change_next(c, ps),
+        Turn::RowFirst => Performed::Refused(Refusal::TooFewParameters),
+        Turn::ColumnFirst => Performed::Refused(Refusal::TooFewParameters),
     }
 }
 
-// "`%r` exchanges the two (both unused)."
-fn exchange(ps: Parameters) -> Effect
-    ensures { λ r. ⌜ r ≡ exchanged ps ⌝ }
+// "`%r` exchanges the two (both unused)": each stays on its axis, and their turn changes.
+fn exchange(ps: Places) -> Performed
+    ensures { λ r. ⌜ effectOf r ≡ exchanged (parametersOf ps) ⌝ }
 {
-    match ps {
-        Parameters::TwoUnused(p, q) => Effect::Gives(Output::Nothing, Parameters::TwoUnused(q, p)),
-        Parameters::OneUnused(u, p) => Effect::Refused(Refusal::TooFewParameters),
-        Parameters::AllUsed(u, v) => Effect::Refused(Refusal::TooFewParameters),
+    let turn = ps.turn;
+    match turn {
+        Turn::RowColumn => Performed::Gives(Output::Nothing, with_turn(ps, Turn::ColumnRow)),
+        Turn::ColumnRow => Performed::Gives(Output::Nothing, with_turn(ps, Turn::RowColumn)),
+        Turn::ColumnLeft => Performed::Refused(Refusal::TooFewParameters),
+        Turn::RowLeft => Performed::Refused(Refusal::TooFewParameters),
+        Turn::RowFirst => Performed::Refused(Refusal::TooFewParameters),
+        Turn::ColumnFirst => Performed::Refused(Refusal::TooFewParameters),
     }
 }
 
 // Does a whole sequence: what it writes, and the parameters after it.
-pub fn perform(g: Raising, sequence: Sequence, ps: Parameters) -> Effect
-    ensures { λ r. ⌜ r ≡ performed g sequence ps ⌝ }
+pub fn perform(g: Raising, sequence: Sequence, ps: Places) -> Performed
+    ensures { λ r. ⌜ effectOf r ≡ doing g sequence (parametersOf ps) ⌝ }
 {
     match sequence {
-        Sequence::Percent => Effect::Gives(Output::Single(b'%'), ps),
+        Sequence::Percent => Performed::Gives(Output::Single(b'%'), ps),
         Sequence::Decimal(least) => next_as_decimal(least, ps),
         Sequence::Byte(c) => next_as_byte(g, c, ps),
         Sequence::ChangeEvery(c) => change_every(c, ps),

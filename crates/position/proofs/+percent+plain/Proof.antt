@@ -2,8 +2,10 @@
 -- is on a part after at least one byte. A run is a loop; a step is one law: a byte that is only read, one that writes, a pause. Assumes nothing.
 use borrow.Author.Needs.{needs}
 use native.Mathlib.Omega.{arith}
-use mathlib.Core.Path.{sym, _∙_}
+use mathlib.Core.Path.{refl, sym, ap, _∙_}
 use lib.ListN.{length}
+use Rattle.places.specs.Places.{parametersOf}
+use Rattle.sequences.specs.Effects.{effectOf}
 use Rattle.position.proofs.FillSteps.{rest-length, percent-none, percent-more, percent-unknown, percent-stops}
 use Rattle.position.proofs.OutputSizes.{Gave, gives}
 use Rattle.position.proofs.RunLaws.{Run, run-first, one-more, at-next-sign, at-last}
@@ -51,17 +53,17 @@ plain-claims t = (percent-below t, percent.Post, put-byte-reads.Asked, put-byte-
 
 -- Where a whole sequence gave its effect.
 gave : (t : ℕ) (c : percent-lts.After-effect2 (percent-claims t) (percent-at t) percent.Post)
-    → Gave (c .before .before .before .before .before .before .before .before .before .before .before .args .command .now) (c .before .before .before .before .before .before .before .before .before .before .before .args .pending) (c .before .before .before .before .before .before .before .before .before .before .before .args .g) (c .before .before .before .before .before .before .before .before .before .before .before .args .ps) (c .effect2 .given .0 .0) (c .effect2 .given .0 .1 .0)
+    → Gave (c .before .before .before .before .before .before .before .before .before .before .before .args .command .now) (c .before .before .before .before .before .before .before .before .before .before .before .args .pending) (c .before .before .before .before .before .before .before .before .before .before .before .args .g) (parametersOf (c .before .before .before .before .before .before .before .before .before .before .before .args .ps)) (c .effect2 .given .0 .0) (parametersOf (c .effect2 .given .0 .1 .0))
 gave t c =
     let a = c .before .before .before .before .before .before .before .before .before .before .before .args in
     let read = sym (c .before .before .before .before .progress2 .given .1) ∙ c .before .before .before .before .before .before .read-byte .ensures in
-    let done = sym (c .effect2 .given .1) ∙ c .before .before .perform .ensures in
-    gives (a .command .now) (a .pending) (a .g) (a .ps) (c .before .before .before .before .before .before .before .before .if1 .left) _ _ _ read done
+    let done = sym (ap effectOf (c .effect2 .given .1)) ∙ c .before .before .perform .ensures in
+    gives (a .command .now) (a .pending) (a .g) (parametersOf (a .ps)) (c .before .before .before .before .before .before .before .before .if1 .left) _ _ _ read done
 
 percent-returns : (t : ℕ) → percent-lts.Need-returns (percent-claims t) (percent-at t) percent.Post
 percent-returns t c =
     let a = c .before .before .before .args in
-    percent-none (a .command .now) (a .g) (a .ps) (a .pending) (c .if1 .taken)
+    percent-none (a .command .now) (a .g) (parametersOf (a .ps)) (a .pending) (c .if1 .taken)
 
 percent-shared-slice-read-read-byte : (t : ℕ) → percent-lts.Need-shared-slice-read-read-byte (percent-claims t) (percent-at t) percent.Post
 percent-shared-slice-read-read-byte t c = search needs
@@ -93,7 +95,7 @@ percent-returns-2 t c =
     let s = a .command .now in
     let n = c .before .before .before .before .before .before .before .before .before .before .if1 .left in
     let short = rest-length s in
-    only-read s (a .g) _ _ (a .out .now) (a .at) _ _ (c .before .before .percent .result) _ (percent-more s (a .g) (a .ps) (a .pending) n _ (sym (c .before .before .before .before .before .before .progress .given .1) ∙ c .before .before .before .before .before .before .before .before .read-byte .ensures)) (omega arith) (c .before .before .percent .ensures)
+    only-read s (a .g) _ _ (a .out .now) (a .at) _ _ (c .before .before .percent .result) _ (percent-more s (a .g) (parametersOf (a .ps)) (a .pending) n _ (sym (c .before .before .before .before .before .before .progress .given .1) ∙ c .before .before .before .before .before .before .before .before .read-byte .ensures)) (omega arith) (c .before .before .percent .ensures)
 
 percent-enum-told : (t : ℕ) → percent-lts.Need-enum-told (percent-claims t) (percent-at t) percent.Post
 percent-enum-told t c = search needs
@@ -104,7 +106,7 @@ percent-returns-3 t c =
     let s = a .command .now in
     let n = c .before .before .before .before .if1 .left in
     let short = rest-length s in
-    percent-unknown s (a .g) (a .ps) (a .pending) n (sym (c .enum-told .given .1) ∙ c .before .before .read-byte .ensures)
+    percent-unknown s (a .g) (parametersOf (a .ps)) (a .pending) n (sym (c .enum-told .given .1) ∙ c .before .before .read-byte .ensures)
 
 percent-enum-known-progress-2 : (t : ℕ) → percent-lts.Need-enum-known-progress-2 (percent-claims t) (percent-at t) percent.Post
 percent-enum-known-progress-2 t c = search needs
@@ -122,8 +124,8 @@ percent-returns-4 t c =
     let n = c .before .before .before .before .before .before .before .before .before .if1 .left in
     let short = rest-length s in
     let e = sym (c .before .before .before .before .before .progress2 .given .1) ∙ c .before .before .before .before .before .before .before .read-byte .ensures in
-    let f = sym (c .before .effect .given .1) ∙ c .before .before .before .perform .ensures in
-    percent-stops s (a .g) (a .ps) (a .pending) n _ _ e f
+    let f = sym (ap effectOf (c .before .effect .given .1)) ∙ c .before .before .before .perform .ensures in
+    percent-stops s (a .g) (parametersOf (a .ps)) (a .pending) n _ _ e f
 
 percent-enum-known-effect-2 : (t : ℕ) → percent-lts.Need-enum-known-effect-2 (percent-claims t) (percent-at t) percent.Post
 percent-enum-known-effect-2 t c = search needs
@@ -185,7 +187,7 @@ percent-returns-6 t c =
     wrote s (a .g) _ _ _ (a .out .now) _ (a .at) _ _ _ (c .before .before .plain .result) _ (step .step) (x .1) (x .0) (omega (arith, x .0, step .fits)) (c .before .before .plain .ensures)
 
 abbrev plain-Inv-loop : plain-lts.InvT-loop
-plain-Inv-loop command g ps out₀ at depth i₀ out i = Run command g ps out₀ at out i
+plain-Inv-loop command g ps out₀ at depth i₀ out i = Run command g (parametersOf ps) out₀ at out i
 
 abbrev plain-μ-loop : plain-lts.MeasureT-loop
 plain-μ-loop command g ps out₀ at depth i₀ out i = length command - i
@@ -193,7 +195,7 @@ plain-μ-loop command g ps out₀ at depth i₀ out i = length command - i
 plain-loop-holds : (t : ℕ) → plain-lts.Need-loop-holds (plain-claims t) (plain-at t) plain.Post plain-Inv-loop plain-μ-loop
 plain-loop-holds t c =
     let a = c .before .before .args in
-    run-first (a .command .now) (a .g) (a .ps) (a .out .now) (a .at)
+    run-first (a .command .now) (a .g) (parametersOf (a .ps)) (a .out .now) (a .at)
 
 plain-shared-slice-read-b : (t : ℕ) → plain-lts.Need-shared-slice-read-b (plain-claims t) (plain-at t) plain.Post plain-Inv-loop plain-μ-loop
 plain-shared-slice-read-b t c = search needs
@@ -223,7 +225,7 @@ plain-returns : (t : ℕ) → plain-lts.Need-returns (plain-claims t) (plain-at 
 plain-returns t c =
     let a = c .before .before .before .before .before .before .before .before .before .before .before .args in
     let l = c .before .before .before .before .before .before .before .before .loop in
-    at-next-sign (a .command .now) (a .g) (a .ps) (a .out .now) (a .at) (l .out) (l .i) (l .inv) (c .before .before .before .before .before .before .before .loop-test .taken) (c .before .before .before .before .before .if1 .taken) (c .before .before .percent .result) _ (c .before .before .percent .ensures)
+    at-next-sign (a .command .now) (a .g) (parametersOf (a .ps)) (a .out .now) (a .at) (l .out) (l .i) (l .inv) (c .before .before .before .before .before .before .before .loop-test .taken) (c .before .before .before .before .before .if1 .taken) (c .before .before .percent .result) _ (c .before .before .percent .ensures)
 
 plain-add-put-byte : (t : ℕ) → plain-lts.Need-add-put-byte (plain-claims t) (plain-at t) plain.Post plain-Inv-loop plain-μ-loop
 plain-add-put-byte t c = search needs
@@ -241,7 +243,7 @@ plain-loop-again : (t : ℕ) → plain-lts.Need-loop-again (plain-claims t) (pla
 plain-loop-again t c =
     let a = c .before .before .before .before .before .before .before .before .before .before .args in
     let l = c .before .before .before .before .before .before .before .loop in
-    one-more (a .command .now) (a .g) (a .ps) (a .out .now) (a .at) (l .out) (l .i) (l .inv) (c .before .before .before .before .before .before .loop-test .taken) (c .before .before .before .before .if1 .left) (c .before .before .put-byte .last .0) (c .before .before .put-byte .ensures)
+    one-more (a .command .now) (a .g) (parametersOf (a .ps)) (a .out .now) (a .at) (l .out) (l .i) (l .inv) (c .before .before .before .before .before .before .loop-test .taken) (c .before .before .before .before .if1 .left) (c .before .before .put-byte .last .0) (c .before .before .put-byte .ensures)
 
 plain-add-t25 : (t : ℕ) → plain-lts.Need-add-t25 (plain-claims t) (plain-at t) plain.Post plain-Inv-loop plain-μ-loop
 plain-add-t25 t c = search needs
@@ -253,7 +255,7 @@ plain-returns-2 : (t : ℕ) → plain-lts.Need-returns-2 (plain-claims t) (plain
 plain-returns-2 t c =
     let a = c .before .before .before .before .args in
     let l = c .before .loop in
-    at-last (a .command .now) (a .g) (a .ps) (a .out .now) (a .at) (l .out) (l .i) (l .inv) (c .loop-test .left) 0
+    at-last (a .command .now) (a .g) (parametersOf (a .ps)) (a .out .now) (a .at) (l .out) (l .i) (l .inv) (c .loop-test .left) 0 (a .ps) refl
 
 pub +percent+plain-spec : {M : Type 1} → statement M
 +percent+plain-spec = close μ-percent μ-plain (λ t. percent-lts.spec (percent-claims t)

@@ -3,18 +3,19 @@
 use borrow.Author.Needs.{needs}
 use native.Mathlib.Omega.{arith}
 use mathlib.Core.Path.{_∙_}
+use Rattle.places.specs.Places.{parametersOf}
 use Rattle.position.proofs.OuterLoop.{FilledSoFar, good-first, handed-length, fill-done, fill-failed, fill-falls, fill-again}
 use Rattle.position.proofs.fill_body.Statement.{statement}
 use Rattle.position.proofs.fill_body.Tie as tie
 
 abbrev Inv-loop : tie.InvT-loop
-Inv-loop command g out₀ left₀ at₀ ps₀ out left at ps = FilledSoFar command g ps₀ out₀ out left at ps
+Inv-loop command g out₀ left₀ at₀ ps₀ out left at ps = FilledSoFar command g (parametersOf ps₀) out₀ out left at (parametersOf ps)
 
 abbrev μ-loop : tie.MeasureT-loop
 μ-loop command g out₀ left₀ at₀ ps₀ out left at ps = left
 
 loop-holds : tie.Need-loop-holds Inv-loop μ-loop
-loop-holds c = let a = c .before .before .args in good-first (a .command .now) (a .g) (a .first) (a .out .now)
+loop-holds c = let a = c .before .before .args in good-first (a .command .now) (a .g) (parametersOf (a .first)) (a .out .now)
 
 sub-from : tie.Need-sub-from Inv-loop μ-loop
 sub-from c = omega (arith, c .loop .inv .within)
@@ -32,7 +33,7 @@ plain-requires : tie.Need-plain-requires Inv-loop μ-loop
 plain-requires c κs =
     let a = c .before .before .before .before .before .args in
     let l = c .before .before .loop in
-    omega (arith, handed-length (a .command .now) (a .g) (a .first) (a .out .now) (l .out) (l .left) (l .at) (l .ps) (l .inv), l .inv .below)
+    omega (arith, handed-length (a .command .now) (a .g) (parametersOf (a .first)) (a .out .now) (l .out) (l .left) (l .at) (parametersOf (l .ps)) (l .inv), l .inv .below)
 
 enum-known-step : tie.Need-enum-known-step Inv-loop μ-loop
 enum-known-step c = search needs
@@ -45,7 +46,7 @@ returns c =
     let a = c .before .before .before .before .before .before .before .before .before .before .before .args in
     let l = c .before .before .before .before .before .before .before .before .loop in
     let f = c .before .before .before .before .before .plain in
-    fill-done (a .command .now) (a .g) (a .first) (a .out .now) (l .out) (l .left) (l .at) (l .ps) (l .inv) _ (f .result) _ (f .ensures) _ _ (c .before .step .given .1)
+    fill-done (a .command .now) (a .g) (parametersOf (a .first)) (a .out .now) (l .out) (l .left) (l .at) (parametersOf (l .ps)) (l .inv) _ (f .result) _ (f .ensures) _ _ (c .before .step .given .1)
 
 enum-known-step-2 : tie.Need-enum-known-step-2 Inv-loop μ-loop
 enum-known-step-2 c = search needs
@@ -58,7 +59,7 @@ returns-2 c =
     let a = c .before .before .before .before .before .before .before .before .before .before .before .args in
     let l = c .before .before .before .before .before .before .before .before .loop in
     let f = c .before .before .before .before .before .plain in
-    fill-failed (a .command .now) (a .g) (a .first) (a .out .now) (l .out) (l .left) (l .at) (l .ps) (l .inv) _ (f .result) _ (f .ensures) _ (c .before .step2 .given .1)
+    fill-failed (a .command .now) (a .g) (parametersOf (a .first)) (a .out .now) (l .out) (l .left) (l .at) (parametersOf (l .ps)) (l .inv) _ (f .result) _ (f .ensures) _ (c .before .step2 .given .1)
 
 enum-known-step-3 : tie.Need-enum-known-step-3 Inv-loop μ-loop
 enum-known-step-3 c = search needs
@@ -68,15 +69,15 @@ loop-less c =
     let a = c .before .before .before .before .before .before .before .before .before .before .before .args in
     let l = c .before .before .before .before .before .before .before .before .loop in
     let f = c .before .before .before .before .before .plain in
-    fill-falls (a .command .now) (a .g) (a .first) (a .out .now) (l .out) (l .left) (l .at) (l .ps) (l .inv) _ (f .result) _ (f .ensures) _ _ _ (c .before .step3 .given .1)
+    fill-falls (a .command .now) (a .g) (parametersOf (a .first)) (a .out .now) (l .out) (l .left) (l .at) (parametersOf (l .ps)) (l .inv) _ (f .result) _ (f .ensures) _ _ _ (c .before .step3 .given .1)
 
 loop-again : tie.Need-loop-again Inv-loop μ-loop
 loop-again c =
     let a = c .before .before .before .before .before .before .before .before .before .before .before .args in
     let l = c .before .before .before .before .before .before .before .before .loop in
     let f = c .before .before .before .before .before .plain in
-    let k = handed-length (a .command .now) (a .g) (a .first) (a .out .now) (l .out) (l .left) (l .at) (l .ps) (l .inv) in
-    fill-again (a .command .now) (a .g) (a .first) (a .out .now) (l .out) (l .left) (l .at) (l .ps) (l .inv) _ (f .result) _ (f .ensures) _ _ _ (c .before .step3 .given .1) (f .kept .1 .1 .1 .0) (omega arith)
+    let k = handed-length (a .command .now) (a .g) (parametersOf (a .first)) (a .out .now) (l .out) (l .left) (l .at) (parametersOf (l .ps)) (l .inv) in
+    fill-again (a .command .now) (a .g) (parametersOf (a .first)) (a .out .now) (l .out) (l .left) (l .at) (parametersOf (l .ps)) (l .inv) _ (f .result) _ (f .ensures) _ _ _ (c .before .step3 .given .1) (f .kept .1 .1 .1 .0) (omega arith)
 
 pub fill-body-spec : {M : Type 1} → statement M
 fill-body-spec =
