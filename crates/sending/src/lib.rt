@@ -7,21 +7,21 @@ ghost use lib.ListN.{length, drop, replicate};
 ghost use lib.Seq.{sets};
 ghost use Rattle.spec.specs.Choice.{both};
 ghost use Rattle.spec.specs.Padding.{delayFor, padCount};
-ghost use Rattle.spec.specs.Position.{atPlace, fillIn};
-ghost use Rattle.spec.specs.Sending.{goodSpeed, goodPlace, sends, delivered, sendOutcome, sendAtOutcome};
-ghost use Rattle.places.specs.Places.{parametersOf};
-ghost use Rattle.sending.specs.Steps.{CommandJudged, withPads};
+ghost use Rattle.spec.specs.Sending.{goodSpeed, sends, delivered, sendOutcome, sendAtOutcome};
+ghost use Rattle.sending.specs.Steps.{CommandJudged, withPads, heldFor, goodRow, goodColumn, filledFor};
 use compensations::FilledIn;
 use compensations::fill_in;
 use padding::Prefix;
 use padding::pad_count;
 use padding::read_prefix;
-use places::Places;
 use places::both_unused;
 use spec::Refusal;
 use spec::Written;
 use spec::position::Column;
 use spec::position::Row;
+
+// How 9,999 is held.
+const LAST: u16 = 42767;
 
 // ---- the inputs and the pads
 
@@ -38,20 +38,36 @@ fn good_speed(lines: u64, speed: u64) -> bool
     speed <= 115200
 }
 
-// Row and column "each 0..9,999".
-fn good_place(row: u64, column: u64) -> bool
-    ensures { λ r. ⌜ r ≡ goodPlace row column ⌝ }
+// A number that comes in, as a row or a column holds it. What is above 32,767 is held as that, which is out of range as well.
+fn held_for(n: u64) -> u16
+    ensures { λ r. ⌜ r ≡ heldFor n ⌝ }
 {
-    if row > 9999 {
-        return false;
+    if n > 32767 {
+        return 65535;
     }
-    column <= 9999
+    32768 + n as u16
 }
 
-fn good_inputs(row: u64, column: u64, lines: u64, speed: u64) -> bool
-    ensures { λ r. ⌜ r ≡ both (goodPlace row column) (goodSpeed lines speed) ⌝ }
+// Row and column "each 0..9,999".
+fn good_row(row: Row) -> bool
+    ensures { λ r. ⌜ r ≡ goodRow row ⌝ }
 {
-    if !good_place(row, column) {
+    row.0 <= LAST
+}
+
+fn good_column(column: Column) -> bool
+    ensures { λ r. ⌜ r ≡ goodColumn column ⌝ }
+{
+    column.0 <= LAST
+}
+
+fn good_inputs(row: Row, column: Column, lines: u64, speed: u64) -> bool
+    ensures { λ r. ⌜ r ≡ both (both (goodRow row) (goodColumn column)) (goodSpeed lines speed) ⌝ }
+{
+    if !good_row(row) {
+        return false;
+    }
+    if !good_column(column) {
         return false;
     }
     good_speed(lines, speed)
@@ -152,14 +168,6 @@ pub fn send(command: &[u8], lines: u64, speed: u64, pad: u8, out: &mut [u8]) -> 
 
 // ---- Send at
 
-// "Row is the first parameter, column the second."
-fn at_place(row: u64, column: u64) -> Places
-    requires { ⌜ (row ≤ 9999) × (column ≤ 9999) ⌝ }
-    ensures { λ r. ⌜ parametersOf r ≡ atPlace row column ⌝ }
-{
-    both_unused(Row(32768 + row as u16), Column(32768 + column as u16))
-}
-
 // So many bytes are filled in beside the buffer, and then copied.
 const SMALL: usize = 128;
 
@@ -167,20 +175,19 @@ const SMALL: usize = 128;
 // filled in again.
 fn send_filled(
     body: &[u8],
-    row: u64,
-    column: u64,
+    row: Row,
+    column: Column,
     back: &[u8],
     up: &[u8],
     pads: usize,
     pad: u8,
     out: &mut [u8],
 ) -> Written
-    requires { ⌜ (row ≤ 9999) × (column ≤ 9999) ⌝ }
-    ensures { λ r. ⌜ (r ≡ delivered (withPads (fillIn (now (body .entry)) row column (now (back .entry)) (now (up .entry))) pads pad) (now (out .entry)) .answer)
-        × (now (out .exit) ≡ delivered (withPads (fillIn (now (body .entry)) row column (now (back .entry)) (now (up .entry))) pads pad) (now (out .entry)) .buffer) ⌝ }
+    ensures { λ r. ⌜ (r ≡ delivered (withPads (filledFor (now (body .entry)) row column (now (back .entry)) (now (up .entry))) pads pad) (now (out .entry)) .answer)
+        × (now (out .exit) ≡ delivered (withPads (filledFor (now (body .entry)) row column (now (back .entry)) (now (up .entry))) pads pad) (now (out .entry)) .buffer) ⌝ }
 {
     let capacity = out.len();
-    let first = at_place(row, column);
+    let first = both_unused(row, column);
     let mut small = [0u8; SMALL];
     let measured = fill_in(body, first, back, up, capacity, &mut small);
     match measured {
@@ -215,18 +222,15 @@ pub fn send_at(
     ensures { λ r. ⌜ (r ≡ sendAtOutcome (now (command .entry)) row column (now (back .entry)) (now (up .entry)) lines speed pad (now (out .entry)) .answer)
         × (now (out .exit) ≡ sendAtOutcome (now (command .entry)) row column (now (back .entry)) (now (up .entry)) lines speed pad (now (out .entry)) .buffer) ⌝ }
 {
-    let judged = judge(
-        command,
-        good_inputs(row, column, lines, speed),
-        lines,
-        speed,
-    );
+    let r = Row(held_for(row));
+    let c = Column(held_for(column));
+    let judged = judge(command, good_inputs(r, c, lines, speed), lines, speed);
     match judged {
         Judged::Refused(r) => return Written::Refused(r),
         Judged::Body(from, pads) => return send_filled(
             &command[from..],
-            row,
-            column,
+            r,
+            c,
             back,
             up,
             pads,

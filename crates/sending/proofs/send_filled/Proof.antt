@@ -5,7 +5,6 @@ use native.Mathlib.Omega.{arith}
 use Prim.Native.Nat.{ℕ, _≤_, _-_}
 use lib.ListN.{length, replicate, length-replicate}
 use mathlib.Core.Path.{_≡_, refl, sym, ap, _∙_}
-use Rattle.spec.specs.Position.{fillIn}
 use Rattle.spec.proofs.Stores.{stored-taken}
 use Rattle.sending.proofs.LentTail.{after-pads}
 use Rattle.sending.proofs.Delivery.{stopped, too-long, fits}
@@ -13,8 +12,8 @@ use Rattle.sending.proofs.TwoPasses.{sends-fault, sends-body, written}
 use Rattle.sending.proofs.send_filled.Statement.{statement}
 use Rattle.sending.proofs.send_filled.Tie as tie
 
-at-place-requires : tie.Need-at-place-requires
-at-place-requires c κs = search needs
+both-unused-requires : tie.Need-both-unused-requires
+both-unused-requires c κs = search needs
 
 slice-aggregate-fill-in : tie.Need-slice-aggregate-fill-in
 slice-aggregate-fill-in c = search needs
@@ -26,20 +25,18 @@ enum-known-measured : tie.Need-enum-known-measured
 enum-known-measured c = search needs
 
 returns : tie.Need-returns
-unfolding fillIn
 returns c =
     let a = c .before .before .before .before .before .before .before .before .before .before .before .args in
-    let f = rw (c .before .before .before .before .before .before .at-place .ensures, c .before .measured .given .1) at (c .before .before .before .before .fill-in .ensures) in
+    let f = rw (c .before .before .before .before .before .before .both-unused .ensures, c .before .measured .given .1) at (c .before .before .before .before .fill-in .ensures) in
     stopped _ _ (a .out .now) (sends-fault _ (a .pads) (a .pad) _ f)
 
 enum-told : tie.Need-enum-told
 enum-told c = search needs
 
 returns-2 : tie.Need-returns-2
-unfolding fillIn
 returns-2 c =
     let a = c .before .before .before .before .before .before .before .before .before .before .args in
-    let f = rw (c .before .before .before .before .before .at-place .ensures, c .enum-told .given .1) at (c .before .before .before .fill-in .ensures) in
+    let f = rw (c .before .before .before .before .before .both-unused .ensures, c .enum-told .given .1) at (c .before .before .before .fill-in .ensures) in
     rw (sends-body _ (a .pads) (a .pad) (f .0) (f .1)) (too-long (f .0) (a .out .now) _ (a .pads) (a .pad) refl (omega (arith, f .2)))
 
 enum-known-measured-2 : tie.Need-enum-known-measured-2
@@ -61,10 +58,9 @@ same-length : tie.Need-same-length
 same-length c = search needs
 
 returns-3 : tie.Need-returns-3
-unfolding fillIn
 returns-3 c =
     let a = c .before .before .before .before .before .before .before .before .before .before .before .before .before .before .before .before .before .args in
-    let f = rw (c .before .before .before .before .before .before .before .before .before .before .before .before .at-place .ensures, c .before .before .before .before .before .before .before .measured2 .given .1) at (c .before .before .before .before .before .before .before .before .before .before .fill-in .ensures) in
+    let f = rw (c .before .before .before .before .before .before .before .before .before .before .before .before .both-unused .ensures, c .before .before .before .before .before .before .before .measured2 .given .1) at (c .before .before .before .before .before .before .before .before .before .before .fill-in .ensures) in
     let fits : length (f .0) ≤ length (replicate {A = ℕ} 128 0) = rw (length-replicate {A = ℕ} 128 0) (omega (arith, f .2, c .before .before .before .before .before .if1 .taken)) in
     let copied = rw (f .4, stored-taken (replicate {A = ℕ} 128 0) (f .0) fits _ (f .2)) at (c .before .before .send-copied .ensures) in
     rw (sends-body _ (a .pads) (a .pad) (f .0) (f .1)) copied
@@ -73,10 +69,9 @@ sub-if2 : tie.Need-sub-if2
 sub-if2 c = (rw (c .before .before .measured2 .given .1) at (c .before .before .before .before .before .fill-in .ensures)) .3
 
 returns-4 : tie.Need-returns-4
-unfolding fillIn
 returns-4 c =
     let a = c .before .before .before .before .before .before .before .before .before .before .before .before .before .args in
-    let f = rw (c .before .before .before .before .before .before .before .before .at-place .ensures, c .before .before .before .measured2 .given .1) at (c .before .before .before .before .before .before .fill-in .ensures) in
+    let f = rw (c .before .before .before .before .before .before .before .before .both-unused .ensures, c .before .before .before .measured2 .given .1) at (c .before .before .before .before .before .before .fill-in .ensures) in
     rw (sends-body _ (a .pads) (a .pad) (f .0) (f .1)) (too-long (f .0) (a .out .now) _ (a .pads) (a .pad) (sym (f .2)) (omega (arith, f .3)))
 
 fill-in-requires-2 : tie.Need-fill-in-requires-2
@@ -114,12 +109,11 @@ same-length-2 : tie.Need-same-length-2
 same-length-2 c = search needs
 
 returns-5 : tie.Need-returns-5
-unfolding fillIn
 returns-5 c =
     let a = c .before .before .before .before .before .before .before .before .before .before .before .before .before .before .before .before .before .before .before .before .before .args in
-    let f = rw (c .before .before .before .before .before .before .before .before .before .before .before .before .before .before .before .before .at-place .ensures, c .before .before .before .before .before .before .before .before .before .before .before .measured2 .given .1) at (c .before .before .before .before .before .before .before .before .before .before .before .before .before .before .fill-in .ensures) in
+    let f = rw (c .before .before .before .before .before .before .before .before .before .before .before .before .before .before .before .before .both-unused .ensures, c .before .before .before .before .before .before .before .before .before .before .before .measured2 .given .1) at (c .before .before .before .before .before .before .before .before .before .before .before .before .before .before .fill-in .ensures) in
     let inside : c .before .before .before .before .before .before .before .before .before .before .before .measured2 .given .0 .0 ≤ length (a .out .now) = f .3 in
-    let again = rw (c .before .before .before .before .before .before .before .before .before .before .before .before .before .before .before .before .at-place .ensures) at (c .before .before .before .before .before .before .fill-in2 .ensures) in
+    let again = rw (c .before .before .before .before .before .before .before .before .before .before .before .before .before .before .before .before .both-unused .ensures) at (c .before .before .before .before .before .before .fill-in2 .ensures) in
     let first = written _ (f .0) _ (a .out .now) (c .before .before .before .before .before .before .fill-in2 .result) _ (f .1) (f .2) inside again in
     rw (sends-body _ (a .pads) (a .pad) (f .0) (f .1))
     (fits (f .0) (a .out .now) _ (a .pads) (a .pad) (sym (f .2)) (omega arith) _
@@ -129,7 +123,7 @@ pub send-filled-spec : {M : Type 1} → statement M
 send-filled-spec =
     tie.close
     (tie.spec
-    at-place-requires
+    both-unused-requires
     slice-aggregate-fill-in
     fill-in-requires
     enum-known-measured
