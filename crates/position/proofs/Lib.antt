@@ -3,4 +3,5 @@ pub mod FillSteps
 pub mod OuterLoop
 pub mod OutputSizes
 pub mod RunLaws
+pub mod SequenceLaws
 pub mod StepLaws

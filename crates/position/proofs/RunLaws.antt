@@ -19,6 +19,16 @@ use Rattle.spec.specs.declared.position.Pending.the-variants.{Letter}
 use Rattle.places.specs.Places.{parametersOf}
 use Rattle.places.specs.declared.Places.{Places}
 
+-- A sign at a place, and the end.
+module _ (s : List ℕ) (g : Raising) (ps : Parameters) (i : ℕ) where
+  pub at-sign : i < length s → getD s i 0 ≡ 37 → plainOf (drop i s) g ps ≡ percentOf (drop (i + 1) s) Letter g ps
+  unfolding plainOf
+  at-sign l e = rw (drop-cons s i 0, eq-eqb _ _ e, add-one)
+
+  pub at-end : length s ≤ i → plainOf (drop i s) g ps ≡ filled [] ps
+  unfolding plainOf
+  at-end l = rw (drop-of-length-le s l)
+
 -- The loop over a run: i bytes were written, and the whole gives them and what those from i on give.
 pub record Run (s : List ℕ) (g : Raising) (ps : Parameters) (out₀ : List ℕ) (at : ℕ) (out : List ℕ) (i : ℕ) : Type 0 where
   pub inside : i ≤ length s
@@ -35,14 +45,6 @@ module _ (s : List ℕ) (g : Raising) (ps : Parameters) (out₀ : List ℕ) (at 
   at-byte : i < length s → (getD s i 0 ≡ 37 → ⊥) → plainOf (drop i s) g ps ≡ then (getD s i 0 ∷ []) (plainOf (drop (i + 1) s) g ps)
   unfolding plainOf
   at-byte l n = rw (drop-cons s i 0, ne-eqb _ _ n, add-one)
-
-  at-sign : i < length s → getD s i 0 ≡ 37 → plainOf (drop i s) g ps ≡ percentOf (drop (i + 1) s) Letter g ps
-  unfolding plainOf
-  at-sign l e = rw (drop-cons s i 0, eq-eqb _ _ e, add-one)
-
-  at-end : length s ≤ i → plainOf (drop i s) g ps ≡ filled [] ps
-  unfolding plainOf
-  at-end l = rw (drop-of-length-le s l)
 
   place : at + i ≡ at + length (run .wrote)
   place = ap (λ (n : ℕ). at + n) (sym (run .counted))
@@ -63,13 +65,13 @@ module _ (s : List ℕ) (g : Raising) (ps : Parameters) (out₀ : List ℕ) (at 
       → StepTaken s g (plainOf s g ps) out₀ at (plainBound s ps at) r o
   at-next-sign l e r o v =
       let size : length (part s (i + 1)) ≡ length s - (i + 1) = part-length s (i + 1) in
-      let t : plainOf (drop i s) g ps ≡ percentOf (part s (i + 1)) Letter g ps = at-sign l e ∙ ap (λ (x : List ℕ). percentOf x Letter g ps) (sym (part-is s (i + 1))) in
+      let t : plainOf (drop i s) g ps ≡ percentOf (part s (i + 1)) Letter g ps = at-sign s g ps i l e ∙ ap (λ (x : List ℕ). percentOf x Letter g ps) (sym (part-is s (i + 1))) in
       went-on s g (i + 1) (plainOf s g ps) (percentOf (part s (i + 1)) Letter g ps) (run .wrote) out₀ out at (at + i) _ _ r o (run .gives ∙ ap (then (run .wrote)) t) (run .stored) place (omega arith) v
 
   pub at-last : length s ≤ i → (top : ℕ) (q : Places) → ps ≡ parametersOf q → StepTaken s g (plainOf s g ps) out₀ at top (Done (at + i) q) out
   at-last l top q e = (
     run .wrote,
-    run .gives ∙ ap (then (run .wrote)) (at-end l) ∙ ap (λ (x : List ℕ). filled x ps) (append-nil (run .wrote)) ∙ ap (filled (run .wrote)) e,
+    run .gives ∙ ap (then (run .wrote)) (at-end s g ps i l) ∙ ap (λ (x : List ℕ). filled x ps) (append-nil (run .wrote)) ∙ ap (filled (run .wrote)) e,
     place,
     run .stored,
   )

@@ -6,14 +6,13 @@ use native.Mathlib.Nat.{add-zero}
 use native.Mathlib.Omega.{arith}
 use lib.ListN.{length, drop, set, length-drop, length-append}
 use lib.Seq.{sets, drop-drop}
-use Rattle.position.proofs.FillSteps.{rest, part, part-is}
+use Rattle.position.proofs.FillSteps.{part, part-is}
 use Rattle.position.specs.declared.Step.{Step}
 use Rattle.position.specs.declared.Step.the-variants.{Done, Fault, Paused}
 use Rattle.spec.specs.Position.{Filled, filled, refused, then, plainOf}
-use Rattle.position.specs.Filling.{plainBound, StepTaken}
+use Rattle.position.specs.Filling.{StepTaken}
 use Rattle.spec.specs.declared.position.Raising.{Raising}
 use Rattle.places.specs.Places.{parametersOf}
-use Rattle.places.specs.declared.Places.{Places}
 
 pub then-then : (k l : List ℕ) (t : Filled) → then k (then l t) ≡ then (k ++ l) t
 then-then k l (filled m ps) = ap (λ (x : List ℕ). filled x ps) (sym (append-assoc k l m))
@@ -58,22 +57,3 @@ went-on s g j t u w out m at next low top (Paused left to ps) o et em en lt v =
       omega (arith, v .4),
       omega (arith, rw d at (v .5)),
     )
-
-module _ (s : List ℕ) (g : Raising) where
-  -- A step that writes k, and goes on with what is left.
-  pub wrote : (t u : Filled) (k out m : List ℕ) (at next low top : ℕ) (r : Step) (o : List ℕ)
-      → t ≡ then k u → m ≡ sets out at k → next ≡ at + length k → low ≤ top → StepTaken (rest s) g u m next low r o → StepTaken s g t out at top r o
-  wrote = went-on s g 1
-
-  -- A step that only reads.
-  pub only-read : (t u : Filled) (out : List ℕ) (at low top : ℕ) (r : Step) (o : List ℕ) → t ≡ u → low ≤ top → StepTaken (rest s) g u out at low r o → StepTaken s g t out at top r o
-  only-read t u out at low top r o et lt w = wrote t u [] out out at at low top r o (et ∙ sym (then-none u)) refl (omega arith) lt w
-
-  -- A step that writes k, and pauses.
-  pub paused : (n : length s ≡ 0 → ⊥) (t : Filled) (k out m : List ℕ) (at next top : ℕ) (ps : Places)
-      → t ≡ then k (plainOf (rest s) g (parametersOf ps)) → m ≡ sets out at k → next ≡ at + length k → plainBound (rest s) (parametersOf ps) next ≤ top
-      → StepTaken s g t out at top (Paused (length s - 1) next ps) m
-  paused n t k out m at next top ps et em en lt =
-      let one : length s - (length s - 1) ≡ 1 = omega arith in
-      let d : rest s ≡ drop (length s - (length s - 1)) s = part-is s 1 ∙ ap (λ (n : ℕ). drop n s) (sym one) in
-      (k, rw d at et, en, em, omega arith, rw d at lt)

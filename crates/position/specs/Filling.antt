@@ -4,13 +4,16 @@ use mathlib.Core.Path.{_≡_}
 use mathlib.Core.List.{List}
 use lib.ListN.{length, drop}
 use lib.Seq.{sets}
-use Rattle.spec.specs.Position.{Filled, filled, refused, then, plainOf}
+use Rattle.spec.specs.Position.{Filled, filled, refused, then, plainOf, percentOf}
 use Rattle.spec.specs.declared.position.Raising.{Raising}
 use Rattle.spec.specs.declared.position.Parameters.{Parameters}
 use Rattle.spec.specs.declared.position.Parameters.the-variants.{TwoUnused, OneUnused, AllUsed}
+use Rattle.spec.specs.declared.position.Pending.the-variants.{Letter}
 use Rattle.places.specs.Places.{parametersOf}
 use Rattle.position.specs.declared.BodyEnd.{BodyEnd}
 use Rattle.position.specs.declared.BodyEnd.the-variants.{At, Refused}
+use Rattle.position.specs.declared.Sequenced.{Sequenced}
+use Rattle.position.specs.declared.Sequenced.the-variants.{Until, Fault as Stopped}
 use Rattle.position.specs.declared.Step.{Step}
 use Rattle.position.specs.declared.Step.the-variants.{Done, Fault, Paused}
 
@@ -27,6 +30,19 @@ plainBound s ps at = at + length s + 3 * unused ps
 
 abbrev pub percentBound : List ℕ → Parameters → ℕ → ℕ
 percentBound s ps at = at + length s + 1 + 3 * unused ps
+
+-- A sequence of s from a place on, where its letter is due, done into a buffer from a place on. Until: l was written there, and what s
+-- gives from there on is l and then what the bytes from `next` on give. A fault: s gives that.
+abbrev pub SequenceDone : List ℕ → ℕ → Raising → Parameters → List ℕ → ℕ → Sequenced → List ℕ → Type 0
+SequenceDone s from g ps out at (Until next end qs) o =
+    (l : List ℕ)
+    × (percentOf (drop from s) Letter g ps ≡ then l (plainOf (drop next s) g (parametersOf qs)))
+    × (end ≡ at + length l)
+    × (o ≡ sets out at l)
+    × (from < next)
+    × (next ≤ length s)
+    × (length l + 3 * unused (parametersOf qs) ≤ 2 + 3 * unused ps)
+SequenceDone s from g ps out at (Stopped r) o = percentOf (drop from s) Letter g ps ≡ refused r
 
 -- Steps over s, which is to give t, into a buffer from a place on. Done: l was written there, and t is l. A fault: t is that. A pause: l
 -- was written there, `left` bytes of s are to go, and t is l and then what those give.

@@ -1,25 +1,25 @@
 // Filling in a position: a command's body for two parameters, into a lent buffer.
 ghost use mathlib.Core.Path.{_≡_};
-ghost use Prim.Native.Nat.{_+_, _<_, _^_};
+ghost use Prim.Native.Nat.{_+_, _-_, _*_, _≤_, _<_, _^_};
 ghost use lib.ListN.{length};
 ghost use lib.Seq.{sets};
 ghost use Rattle.spec.specs.Digits.{spell, Fewest};
 ghost use Rattle.spec.specs.Sequences.{outputBytes};
 ghost use Rattle.spec.specs.Position.{plainOf, percentOf};
+ghost use Rattle.spec.specs.declared.position.Pending.the-variants.{Letter};
 ghost use Rattle.places.specs.Places.{parametersOf};
-ghost use Rattle.position.specs.Filling.{plainBound, percentBound, StepTaken, BodyFilled};
+ghost use Rattle.position.specs.Filling.{unused, plainBound, percentBound, SequenceDone, StepTaken, BodyFilled};
 use places::Places;
 use sequences::Performed;
+use sequences::Reading;
 use sequences::perform;
-use sequences::read_byte;
+use sequences::read_sequence;
 use spec::Refusal;
 use spec::position::Output;
-use spec::position::Pending;
-use spec::position::Progress;
 use spec::position::Raising;
 use stores::put_byte;
 
-// How many steps may be nested, of four calls each at most (`%>xy`), so that the stack does not grow with the command.
+// How many percent steps may be nested, each with the plain step before it, so that the stack does not grow with the command.
 const DEPTH: usize = 15;
 
 // ---- writing: a store past the buffer's end is no store, so that with an empty part of the buffer the same code only measures
@@ -98,6 +98,40 @@ enum Step {
     Paused(usize, usize, Places),
 }
 
+// A sequence that was done: the place after it in the command, the place after what it wrote, and the parameters; or its fault.
+enum Sequenced {
+    Until(usize, usize, Places),
+    Fault(Refusal),
+}
+
+// Reads a sequence from its letter on, does it, and writes what it writes.
+fn do_sequence(
+    command: &[u8],
+    from: usize,
+    g: Raising,
+    ps: Places,
+    out: &mut [u8],
+    at: usize,
+) -> Sequenced
+    requires { ⌜ (from ≤ length (now command)) × (at + (length (now command) - from) + 1 + 3 * unused (parametersOf ps) < 2 ^ 64) ⌝ }
+    ensures { λ r. ⌜ SequenceDone (now (command .entry)) from g (parametersOf ps) (now (out .entry)) at r (now (out .exit)) ⌝ }
+{
+    let reading = read_sequence(command, from);
+    match reading {
+        Reading::Unknown => return Sequenced::Fault(Refusal::UnknownSequence),
+        Reading::Whole(sequence, next) => {
+            let performed = perform(g, sequence, ps);
+            match performed {
+                Performed::Refused(r) => return Sequenced::Fault(r),
+                Performed::Gives(x, qs) => {
+                    let end = write_output(x, out, at);
+                    return Sequenced::Until(next, end, qs);
+                }
+            }
+        }
+    }
+}
+
 // Where a plain byte or a percent sign is due: a run of plain bytes up to the next sign.
 fn plain(command: &[u8], g: Raising, ps: Places, out: &mut [u8], at: usize, depth: usize) -> Step
     requires { ⌜ plainBound (now command) (parametersOf ps) at < 2 ^ 64 ⌝ }
@@ -108,7 +142,7 @@ fn plain(command: &[u8], g: Raising, ps: Places, out: &mut [u8], at: usize, dept
         let b = command[i];
         if b == b'%' {
             let k = i + 1;
-            return percent(&command[k..], Pending::Letter, g, ps, out, at + i, depth);
+            return percent(&command[k..], g, ps, out, at + i, depth);
         }
         put_byte(out, at + i, b);
         i += 1;
@@ -116,37 +150,38 @@ fn plain(command: &[u8], g: Raising, ps: Places, out: &mut [u8], at: usize, dept
     Step::Done(at + i, ps)
 }
 
-// Within a percent sequence, of which so much is still to be read.
+// Sequences that follow each other, from the letter of the first one on, up to the next plain byte.
 fn percent(
     command: &[u8],
-    pending: Pending,
     g: Raising,
-    ps: Places,
+    first: Places,
     out: &mut [u8],
-    at: usize,
+    start: usize,
     depth: usize,
 ) -> Step
-    requires { ⌜ percentBound (now command) (parametersOf ps) at < 2 ^ 64 ⌝ }
-    ensures { λ r. ⌜ StepTaken (now (command .entry)) g (percentOf (now (command .entry)) pending g (parametersOf ps)) (now (out .entry)) at (percentBound (now (command .entry)) (parametersOf ps) at) r (now (out .exit)) ⌝ }
+    requires { ⌜ percentBound (now command) (parametersOf first) start < 2 ^ 64 ⌝ }
+    ensures { λ r. ⌜ StepTaken (now (command .entry)) g (percentOf (now (command .entry)) Letter g (parametersOf first)) (now (out .entry)) start (percentBound (now (command .entry)) (parametersOf first) start) r (now (out .exit)) ⌝ }
 {
-    if command.len() == 0 {
-        return Step::Fault(Refusal::UnknownSequence);
-    }
-    let progress = read_byte(pending, command[0]);
-    match progress {
-        Progress::More(next) => return percent(&command[1..], next, g, ps, out, at, depth),
-        Progress::Unknown => return Step::Fault(Refusal::UnknownSequence),
-        Progress::Whole(sequence) => {
-            let effect = perform(g, sequence, ps);
-            match effect {
-                Performed::Refused(r) => return Step::Fault(r),
-                Performed::Gives(x, qs) => {
-                    let end = write_output(x, out, at);
-                    if depth == 0 {
-                        return Step::Paused(command.len() - 1, end, qs);
-                    }
-                    return plain(&command[1..], g, qs, out, end, depth - 1);
+    let mut i = 0;
+    let mut at = start;
+    let mut ps = first;
+    loop {
+        let sequenced = do_sequence(command, i, g, ps, out, at);
+        match sequenced {
+            Sequenced::Fault(r) => return Step::Fault(r),
+            Sequenced::Until(next, to, qs) => {
+                if next == command.len() {
+                    return Step::Done(to, qs);
                 }
+                if command[next] != b'%' {
+                    if depth == 0 {
+                        return Step::Paused(command.len() - next, to, qs);
+                    }
+                    return plain(&command[next..], g, qs, out, to, depth - 1);
+                }
+                i = next + 1;
+                at = to;
+                ps = qs;
             }
         }
     }

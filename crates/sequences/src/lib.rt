@@ -1,9 +1,13 @@
-// Percent sequences: each is read byte by byte, and then done to the parameters.
+// Percent sequences: each is read, and then done to the parameters.
 ghost use mathlib.Core.Path.{_≡_};
+ghost use mathlib.Core.Logic.{_⊎_};
+ghost use Prim.Native.Nat.{_+_, _≤_, _<_};
+ghost use lib.ListN.{length, getD};
 ghost use Rattle.spec.specs.Values.{raised, inRange, changed};
-ghost use Rattle.spec.specs.Sequences.{letter, readByte, withNext, asDecimal, asByte, changeNext, changeEvery, exchange as exchanged, perform as doing};
+ghost use Rattle.spec.specs.Sequences.{withNext, asDecimal, asByte, changeNext, changeEvery, exchange as exchanged, perform as doing};
 ghost use Rattle.spec.specs.declared.position.Parameter.the-variants.{Row as OfRow, Column as OfColumn};
 ghost use Rattle.places.specs.Places.{parametersOf};
+ghost use Rattle.sequences.specs.Readings.{SequenceRead};
 ghost use Rattle.sequences.specs.Effects.{effectOf, raisedIf, decimalEffect, byteEffect, changeEffect, changeBothEffect};
 use places::Next;
 use places::Places;
@@ -19,8 +23,6 @@ use spec::position::Change;
 use spec::position::Changed;
 use spec::position::Column;
 use spec::position::Output;
-use spec::position::Pending;
-use spec::position::Progress;
 use spec::position::Raised;
 use spec::position::Raising;
 use spec::position::Row;
@@ -114,36 +116,63 @@ fn change_value(c: Change, value: u16) -> Changed
 
 // ---- reading a sequence
 
-// The byte after the percent sign.
-fn read_letter(b: u8) -> Progress
-    ensures { λ r. ⌜ r ≡ letter b ⌝ }
+// A sequence that was read, from the byte after its sign on: whole, with the place after it; or there is none such.
+pub enum Reading {
+    Whole(Sequence, usize),
+    Unknown,
+}
+
+// The last byte of `%>xy`: x stands at i.
+fn read_addend(command: &[u8], from: usize, i: usize, x: u8) -> Reading
+    requires { ⌜ (i ≡ from + 1) × (i < length (now command)) × (x ≡ getD (now command) i 0) × (getD (now command) from 0 ≡ 62) ⌝ }
+    ensures { λ r. ⌜ SequenceRead (now (command .entry)) from r ⌝ }
 {
+    let j = i + 1;
+    if j == command.len() {
+        return Reading::Unknown;
+    }
+    Reading::Whole(Sequence::ChangeNext(Change::AddAbove(x, command[j])), j + 1)
+}
+
+// What follows the letter of `%+c` and `%>xy`.
+fn read_operands(command: &[u8], from: usize, b: u8) -> Reading
+    requires { ⌜ (from < length (now command)) × (b ≡ getD (now command) from 0) × ((b ≡ 43) ⊎ (b ≡ 62)) ⌝ }
+    ensures { λ r. ⌜ SequenceRead (now (command .entry)) from r ⌝ }
+{
+    let i = from + 1;
+    if i == command.len() {
+        return Reading::Unknown;
+    }
+    let x = command[i];
     match b {
-        b'%' => Progress::Whole(Sequence::Percent),
-        b'd' => Progress::Whole(Sequence::Decimal(1)),
-        b'2' => Progress::Whole(Sequence::Decimal(2)),
-        b'3' => Progress::Whole(Sequence::Decimal(3)),
-        b'.' => Progress::Whole(Sequence::Byte(0)),
-        b'+' => Progress::More(Pending::Added),
-        b'i' => Progress::Whole(Sequence::ChangeEvery(Change::Increment)),
-        b'n' => Progress::Whole(Sequence::ChangeEvery(Change::Xor)),
-        b'r' => Progress::Whole(Sequence::Exchange),
-        b'>' => Progress::More(Pending::Threshold),
-        b'B' => Progress::Whole(Sequence::ChangeNext(Change::Bcd)),
-        b'D' => Progress::Whole(Sequence::ChangeNext(Change::Delta)),
-        _ => Progress::Unknown,
+        b'+' => Reading::Whole(Sequence::Byte(x), i + 1),
+        _ => read_addend(command, from, i, x),
     }
 }
 
-// One more byte of a sequence, of which so much is still to be read.
-pub fn read_byte(pending: Pending, b: u8) -> Progress
-    ensures { λ r. ⌜ r ≡ readByte pending b ⌝ }
+// A sequence, from the byte after its sign on.
+pub fn read_sequence(command: &[u8], from: usize) -> Reading
+    requires { ⌜ from ≤ length (now command) ⌝ }
+    ensures { λ r. ⌜ SequenceRead (now (command .entry)) from r ⌝ }
 {
-    match pending {
-        Pending::Letter => read_letter(b),
-        Pending::Added => Progress::Whole(Sequence::Byte(b)),
-        Pending::Threshold => Progress::More(Pending::Addend(b)),
-        Pending::Addend(x) => Progress::Whole(Sequence::ChangeNext(Change::AddAbove(x, b))),
+    if from == command.len() {
+        return Reading::Unknown;
+    }
+    let b = command[from];
+    match b {
+        b'%' => Reading::Whole(Sequence::Percent, from + 1),
+        b'd' => Reading::Whole(Sequence::Decimal(1), from + 1),
+        b'2' => Reading::Whole(Sequence::Decimal(2), from + 1),
+        b'3' => Reading::Whole(Sequence::Decimal(3), from + 1),
+        b'.' => Reading::Whole(Sequence::Byte(0), from + 1),
+        b'+' => read_operands(command, from, b),
+        b'i' => Reading::Whole(Sequence::ChangeEvery(Change::Increment), from + 1),
+        b'n' => Reading::Whole(Sequence::ChangeEvery(Change::Xor), from + 1),
+        b'r' => Reading::Whole(Sequence::Exchange, from + 1),
+        b'>' => read_operands(command, from, b),
+        b'B' => Reading::Whole(Sequence::ChangeNext(Change::Bcd), from + 1),
+        b'D' => Reading::Whole(Sequence::ChangeNext(Change::Delta), from + 1),
+        _ => Reading::Unknown,
     }
 }
 
