@@ -2,6 +2,7 @@
 use mathlib.Core.Path.{_≡_, refl, sym, ap, _∙_}
 use mathlib.Core.List.{List, [], _∷_, _++_, append-assoc, append-nil}
 use Prim.Native.Nat.{ℕ, suc, _+_, _*_, _/_, _%_, _^_, _<_, _≤_}
+use native.Mathlib.Numerals.{add-one}
 use native.Mathlib.Omega.{arith}
 use native.Mathlib.Nat.{pow-suc}
 use lib.ListN.{length, set, length-set}
@@ -59,3 +60,21 @@ number-is least n k f = written-is 10 least n (omega arith) k f
 
 pub number-length : (least n k : ℕ) → Fewest 10 least n k → length (written 10 least n) ≡ k
 number-length least n k f = ap length (number-is least n k f) ∙ spell-length 10 k n
+
+pub two-stored : (out m o : List ℕ) (at x y : ℕ) → m ≡ set out at x → o ≡ set m (at + 1) y → o ≡ sets out at (x ∷ y ∷ [])
+two-stored out m o at x y em eo = eo ∙ rw (em, add-one)
+
+-- one digit, and two
+spell-one : (n : ℕ) → n < 10 → spell 10 1 n ≡ (48 + n) ∷ []
+unfolding spell
+spell-one n h =
+    let m : n % 10 ≡ n = omega arith in
+    spell-last 10 0 n (omega arith) (omega arith) ∙ rw m
+
+pub one-digit : (least n : ℕ) → least ≡ 1 → n < 10 → written 10 least n ≡ (48 + n) ∷ []
+one-digit least n e h = number-is least n 1 (omega arith, omega arith, λ l. absurd (omega arith)) ∙ spell-one n h
+
+pub two-digits : (least n : ℕ) → least ≡ 1 → 10 ≤ n → n < 100 → written 10 least n ≡ (48 + n / 10) ∷ (48 + n % 10) ∷ []
+two-digits least n e l h =
+    let q : n / 10 < 10 = omega arith in
+    number-is least n 2 (omega arith, omega arith, λ k. omega arith) ∙ spell-last 10 1 n (omega arith) (omega arith) ∙ rw (spell-one (n / 10) q)

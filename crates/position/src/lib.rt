@@ -3,7 +3,7 @@ ghost use mathlib.Core.Path.{_≡_};
 ghost use Prim.Native.Nat.{_+_, _-_, _*_, _≤_, _<_, _^_};
 ghost use lib.ListN.{length};
 ghost use lib.Seq.{sets};
-ghost use Rattle.spec.specs.Digits.{spell, Fewest};
+ghost use Rattle.spec.specs.Digits.{spell, written, Fewest};
 ghost use Rattle.spec.specs.Sequences.{outputBytes};
 ghost use Rattle.spec.specs.Position.{plainOf, percentOf};
 ghost use Rattle.spec.specs.declared.position.Pending.the-variants.{Letter};
@@ -70,6 +70,36 @@ fn write_digits(n: u16, count: usize, out: &mut [u8], at: usize)
     }
 }
 
+// A number of any width, and the place after it.
+fn write_wide(n: u16, least: u8, out: &mut [u8], at: usize) -> usize
+    requires { ⌜ at + length (written 10 least n) < 2 ^ 64 ⌝ }
+    ensures { λ r. ⌜ (r ≡ at + length (written 10 least n)) × (now (out .exit) ≡ sets (now (out .entry)) at (written 10 least n)) ⌝ }
+{
+    let count = digit_count(n, least);
+    write_digits(n, count, out, at);
+    at + count
+}
+
+// The same, with one digit or two, as most are, written at once.
+fn write_number(n: u16, least: u8, out: &mut [u8], at: usize) -> usize
+    requires { ⌜ at + length (written 10 least n) < 2 ^ 64 ⌝ }
+    ensures { λ r. ⌜ (r ≡ at + length (written 10 least n)) × (now (out .exit) ≡ sets (now (out .entry)) at (written 10 least n)) ⌝ }
+{
+    if least != 1 {
+        return write_wide(n, least, out, at);
+    }
+    if n < 10 {
+        put_byte(out, at, 48 + n as u8);
+        return at + 1;
+    }
+    if n < 100 {
+        put_byte(out, at, 48 + (n / 10) as u8);
+        put_byte(out, at + 1, 48 + (n % 10) as u8);
+        return at + 2;
+    }
+    write_wide(n, least, out, at)
+}
+
 // Writes what a sequence writes, and answers the place after it.
 fn write_output(x: Output, out: &mut [u8], at: usize) -> usize
     requires { ⌜ at + length (outputBytes x) < 2 ^ 64 ⌝ }
@@ -81,11 +111,7 @@ fn write_output(x: Output, out: &mut [u8], at: usize) -> usize
             put_byte(out, at, b);
             at + 1
         }
-        Output::Number(n, least) => {
-            let count = digit_count(n, least);
-            write_digits(n, count, out, at);
-            at + count
-        }
+        Output::Number(n, least) => write_number(n, least, out, at),
     }
 }
 

@@ -1,6 +1,5 @@
 -- `position::write_output` meets its contract, by the cases of the output. Assumes nothing.
-use Rattle.position.proofs.DigitWriting.{number-is, number-length}
-use mathlib.Core.Path.{refl, _∙_}
+use mathlib.Core.Path.{refl}
 use native.Mathlib.Omega.{arith}
 use borrow.Author.Needs.{needs}
 use Rattle.position.proofs.write_output.Statement.{statement}
@@ -23,24 +22,8 @@ add-result c =
 enum-known-x-2 : tie.Need-enum-known-x-2
 enum-known-x-2 c = search needs
 
-digit-count-requires : tie.Need-digit-count-requires
-digit-count-requires c κs = search needs
-
-write-digits-requires : tie.Need-write-digits-requires
-write-digits-requires c κs =
-    let f = c .before .digit-count .ensures in
-    let e = c .before .before .before .x2 .given .1 in
-    let k = number-length _ _ _ f in
-    let p = rw (e, k) at (c .before .before .before .before .before .before .pre) in
-    (p, f .1)
-
-add-result-2 : tie.Need-add-result-2
-add-result-2 c =
-    let f = c .before .before .before .before .digit-count .ensures in
-    let e = c .before .before .before .before .before .before .x2 .given .1 in
-    let k = number-length _ _ _ f in
-    let p = rw (e, k) at (c .before .before .before .before .before .before .before .before .before .pre) in
-    omega arith
+write-number-requires : tie.Need-write-number-requires
+write-number-requires c κs = rw (c .before .before .x2 .given .1) at (c .before .before .before .before .before .pre)
 
 returns : tie.Need-returns
 returns c = rw (c .enum-told .given .1) (omega arith, refl)
@@ -55,11 +38,7 @@ same-length-2 : tie.Need-same-length-2
 same-length-2 c = search needs
 
 returns-3 : tie.Need-returns-3
-returns-3 c =
-    let f = c .before .before .before .before .digit-count .ensures in
-    let e = c .before .before .before .before .before .before .x2 .given .1 in
-    let k = number-length _ _ _ f in
-    rw (e, k) (refl, c .before .before .write-digits .ensures ∙ rw (number-is _ _ _ f))
+returns-3 c = rw (c .before .before .before .before .before .x2 .given .1) (c .before .before .write-number .ensures)
 
 pub write-output-spec : {M : Type 1} → statement M
 write-output-spec =
@@ -70,9 +49,7 @@ write-output-spec =
     put-byte-requires
     add-result
     enum-known-x-2
-    digit-count-requires
-    write-digits-requires
-    add-result-2
+    write-number-requires
     returns
     same-length
     returns-2
