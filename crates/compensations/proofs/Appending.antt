@@ -34,7 +34,8 @@ copied-more s out at i p e h =
 -- ---- one piece, and then another
 
 module _ (k l : List ℕ) (capacity : ℕ) (out : List ℕ) (at : ℕ) where
-  pub then-appended : (next : ℕ) (m : List ℕ) (r : Appended) (o : List ℕ) → BytesAppended k capacity out at (Until next) m → BytesAppended l capacity m next r o
+  pub then-appended : (next : ℕ) (m : List ℕ) (r : Appended) (o : List ℕ) → BytesAppended k capacity out at (Until next) m → BytesAppended l capacity m next r
+      o
       → BytesAppended (k ++ l) capacity out at r o
   then-appended next m (Until end) o a b = (
     rw length-append (omega (arith, a .0, b .0)),
@@ -70,7 +71,8 @@ module _ (l : List ℕ) (capacity : ℕ) (out₀ : List ℕ) (at count : ℕ) wh
   repeated-none h = record { inside = omega arith; appended = (omega arith, h, refl) }
 
   module _ (out : List ℕ) (end i : ℕ) (r : Repeated l capacity out₀ at count out end i) where
-    pub repeated-again : (next : ℕ) (o : List ℕ) → i < count → BytesAppended l capacity out end (Until next) o → Repeated l capacity out₀ at count o next (i + 1)
+    pub repeated-again : (next : ℕ) (o : List ℕ) → i < count → BytesAppended l capacity out end (Until next) o → Repeated l capacity out₀ at count o next
+        (i + 1)
     repeated-again next o h a = record {
       inside = omega arith;
       appended = rw (add-one, repeated-more) (then-appended (repeated i l) l capacity out₀ at end out (Until next) o (r .appended) a);

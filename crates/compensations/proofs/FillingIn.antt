@@ -27,11 +27,13 @@ module _ (back up : List ℕ) (t : Filled) where
     pub no-room : capacity < n + length (compensations back up (parametersOf ps)) → (l : List ℕ) × (compensated back up t ≡ body l) × (capacity < length l)
     no-room h = (f .0 ++ compensations back up (parametersOf ps), all, rw length-append (omega (arith, f .2)))
 
-    pub has-room : (end : ℕ) (o : List ℕ) → BytesAppended (compensations back up (parametersOf ps)) capacity m n (Until end) o → BodyFilledIn (compensated back up t) capacity out (FilledUntil end) o
+    pub has-room : (end : ℕ) (o : List ℕ) → BytesAppended (compensations back up (parametersOf ps)) capacity m n (Until end) o → BodyFilledIn
+        (compensated back up t) capacity out (FilledUntil end) o
     has-room end o a = (
       f .0 ++ compensations back up (parametersOf ps),
       all,
       rw length-append (omega (arith, a .0, f .2)),
       a .1,
-      a .2 ∙ ap (λ (x : List ℕ). sets x n (compensations back up (parametersOf ps))) (f .3) ∙ sets-append out 0 n (f .0) (compensations back up (parametersOf ps)) (omega (arith, f .2)),
+      a .2 ∙ ap (λ (x : List ℕ). sets x n (compensations back up (parametersOf ps))) (f .3) ∙ sets-append out 0 n (f .0)
+          (compensations back up (parametersOf ps)) (omega (arith, f .2)),
     )

@@ -39,7 +39,8 @@ so-far-none s at h =
     record { after = omega arith; within = h; five = omega arith; below = rw z (omega arith); reads = refl; counts = refl }
 
 module _ (s : List ℕ) (at n i : ℕ) (r : DigitsSoFar s at n i) where
-  pub so-far-more : i < length s → (i - at ≡ 5 → ⊥) → isDigit 10 (getD s i 0) ≡ true → 48 ≤ getD s i 0 → getD s i 0 < 58 → DigitsSoFar s at (n * 10 + (getD s i 0 - 48)) (i + 1)
+  pub so-far-more : i < length s → (i - at ≡ 5 → ⊥) → isDigit 10 (getD s i 0) ≡ true → 48 ≤ getD s i 0 → getD s i 0 < 58 → DigitsSoFar s at
+      (n * 10 + (getD s i 0 - 48)) (i + 1)
   unfolding valueFrom
   so-far-more h f d low high =
       let lead = lead-digit s i h d in

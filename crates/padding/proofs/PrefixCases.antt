@@ -53,14 +53,16 @@ module _ (s : List ℕ) (at n end : ℕ) (d : DigitsRead s at n end) where
 
 -- what stands behind the digits
 star-split : (s : List ℕ) (at delay d : ℕ) (star : Bool) (from : ℕ) → StarRead s at delay (Split d star from)
-    → split (record { delay = delay; star = starred (drop at s); body = pastStar (drop at s) }) ≡ split (record { delay = d; star = star; body = drop from s })
+    → split (record { delay = delay; star = starred (drop at s); body = pastStar (drop at s) }) ≡ split
+    (record { delay = d; star = star; body = drop from s })
 star-split s at delay d star from st =
     let e = sym (st .0) in
     let f = sym (st .1) in
     let g = sym (st .2) in
     λ i. split (record { delay = e i; star = f i; body = g i })
 
-past-plain : (n : ℕ) (s : List ℕ) (c : ℕ) (t : List ℕ) → s ≡ c ∷ t → (c ≡ 46 → ⊥) → pastDigits n s ≡ split (record { delay = 10 * n; star = starred s; body = pastStar s })
+past-plain : (n : ℕ) (s : List ℕ) (c : ℕ) (t : List ℕ) → s ≡ c ∷ t → (c ≡ 46 → ⊥) → pastDigits n s ≡ split
+    (record { delay = 10 * n; star = starred s; body = pastStar s })
 unfolding tenths valueFrom
 past-plain n s c t e p = let w : 10 * n + 0 ≡ 10 * n = omega arith in rw (e, ne-eqb _ _ p, w)
 
@@ -109,8 +111,10 @@ module _ (cmd : List ℕ) (n end : ℕ) (d : DigitsRead cmd 0 n end) where
 
     -- no point: the star is looked for where the digits end
     pub prefix-plain : end < length cmd → (getD cmd end 0 ≡ 46 → ⊥) → (r : Prefix) → StarRead cmd end (10 * n) r → PrefixRead cmd r
-    prefix-plain l p (Split delay star from) st =
-        (past ∙ past-plain n (drop end cmd) (getD cmd end 0) (drop (end + 1) cmd) (drop-next cmd end l) p ∙ star-split cmd end (10 * n) delay star from st, st .3)
+    prefix-plain l p (Split delay star from) st = (
+      past ∙ past-plain n (drop end cmd) (getD cmd end 0) (drop (end + 1) cmd) (drop-next cmd end l) p ∙ star-split cmd end (10 * n) delay star from st,
+      st .3,
+    )
     prefix-plain l p BadPadding st = absurd st
 
     -- a point, and the digits behind it: none, more than one, or one, and then maybe a star
@@ -120,8 +124,11 @@ module _ (cmd : List ℕ) (n end : ℕ) (d : DigitsRead cmd 0 n end) where
 
       pub prefix-point : to ≡ end + 1 → PrefixRead cmd (Split (10 * n) false end)
       prefix-point t =
-          let k = read-count cmd (end + 1) m to e (omega arith) in
-          (past ∙ past-point n (drop end cmd) (drop (end + 1) cmd) point (drop-of-length-le (leading 10 (drop (end + 1) cmd)) {i = 0} (omega arith)), omega arith)
+          let k = read-count cmd (end + 1) m to e (omega arith) in (
+            past ∙ past-point n (drop end cmd) (drop (end + 1) cmd) point (drop-of-length-le (leading 10 (drop (end + 1) cmd)) {i = 0} (omega arith)),
+            omega
+                arith,
+          )
 
       pub prefix-two : end + 2 < to → PrefixRead cmd BadPadding
       prefix-two t = past ∙ past-two n (drop end cmd) (drop (end + 1) cmd) point (omega (arith, e .counts))
@@ -131,7 +138,8 @@ module _ (cmd : List ℕ) (n end : ℕ) (d : DigitsRead cmd 0 n end) where
           let k = read-count cmd (end + 1) m to e (omega arith) in
           let v = read-value cmd (end + 1) m to e (omega arith) in
           let b = read-behind cmd (end + 1) m to e (omega arith) in (
-            past ∙ past-tenth n m (drop end cmd) (drop (end + 1) cmd) (drop to cmd) point (omega (arith, e .after)) v b ∙ star-split cmd to (10 * n + m) delay star from st,
+            past ∙ past-tenth n m (drop end cmd) (drop (end + 1) cmd) (drop to cmd) point (omega (arith, e .after)) v b ∙ star-split cmd to (10 * n + m) delay
+                star from st,
             st .3,
           )
       prefix-tenth o t BadPadding st = absurd st

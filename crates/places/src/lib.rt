@@ -7,6 +7,9 @@ ghost use Rattle.places.specs.Places.{parametersOf, nextOf, withNextValu
 use spec::position::Column;
 use spec::position::Row;
 
+// How a row or a column holds the value 0; negative values are held below it.
+pub const ZERO: u16 = 32768;
+
 // Which parameters are unused, in their present order; once both are used, the order of their use.
 pub enum Turn {
     RowColumn,

@@ -42,8 +42,10 @@ spelt-more out₀ out out′ at n k i j left s e o =
       inside = omega (arith, s .inside);
       below = omega arith;
       behind = (48 + left % 10) ∷ s .behind;
-      spelled = spelled ∙ ap (λ (l : List ℕ). l ++ s .behind) (spell-last 10 j left (omega arith) below) ∙ append-assoc (spell 10 j (left / 10)) ((48 + left % 10) ∷ []) (s .behind);
-      stored = o ∙ ap (λ (l : List ℕ). set l (at + j) (48 + left % 10)) stored ∙ set-sets out₀ (at + j) (suc (at + j)) (48 + left % 10) (s .behind) (omega arith);
+      spelled = spelled ∙ ap (λ (l : List ℕ). l ++ s .behind) (spell-last 10 j left (omega arith) below) ∙ append-assoc (spell 10 j (left / 10))
+          ((48 + left % 10) ∷ []) (s .behind);
+      stored = o ∙ ap (λ (l : List ℕ). set l (at + j) (48 + left % 10)) stored ∙ set-sets out₀ (at + j) (suc (at + j)) (48 + left % 10) (s .behind)
+          (omega arith);
       same = ap length o ∙ simp length-set (s .same);
     }
 

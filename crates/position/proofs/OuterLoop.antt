@@ -37,9 +37,19 @@ pub good-first : (cmd : List ℕ) (g : Raising) (first : Parameters) (out : List
 good-first cmd g first out =
     let z : length cmd - length cmd ≡ 0 = omega arith in
     let m = unused-most first in
-    record { within = omega arith; wrote = []; gives = rw z (sym (then-none (plainOf cmd g first))); place = refl; stored = refl; below = omega arith; same = refl }
+    record {
+      within = omega arith;
+      wrote = [];
+      gives = rw z (sym (then-none (plainOf cmd g first)));
+      place = refl;
+      stored = refl;
+      below = omega arith;
+      same =
+          refl;
+    }
 
-module _ (cmd : List ℕ) (g : Raising) (first : Parameters) (out₀ out : List ℕ) (left at : ℕ) (ps : Parameters) (good : FilledSoFar cmd g first out₀ out left at ps) where
+module _ (cmd : List ℕ) (g : Raising) (first : Parameters) (out₀ out : List ℕ) (left at : ℕ) (ps : Parameters)
+    (good : FilledSoFar cmd g first out₀ out left at ps) where
   -- The part that is handed on.
   abbrev from : ℕ
   from = length cmd - left
@@ -56,7 +66,8 @@ module _ (cmd : List ℕ) (g : Raising) (first : Parameters) (out₀ out : List 
   module _ (top : ℕ) (r : Step) (o : List ℕ) (w : StepTaken handed g (plainOf handed g ps) out at top r o) where
     pub fill-done : (n : ℕ) (qs : Places) → r ≡ Done n qs → BodyFilled (plainOf cmd g first) out₀ (At n qs) o
     fill-done n qs e =
-        let v : StepTaken handed g (plainOf handed g ps) out at top (Done n qs) o = subst (λ (x : Step). StepTaken handed g (plainOf handed g ps) out at top x o) e w in
+        let v : StepTaken handed g (plainOf handed g ps) out at top (Done n qs) o = subst
+        (λ (x : Step). StepTaken handed g (plainOf handed g ps) out at top x o) e w in
         let p = good .place in (
           good .wrote ++ v .0,
           whole ∙ ap (then (good .wrote)) (v .1),
@@ -66,23 +77,28 @@ module _ (cmd : List ℕ) (g : Raising) (first : Parameters) (out₀ out : List 
 
     pub fill-failed : (n : Refusal) → r ≡ Fault n → BodyFilled (plainOf cmd g first) out₀ (Refused n) o
     fill-failed n e =
-        let v : StepTaken handed g (plainOf handed g ps) out at top (Fault n) o = subst (λ (x : Step). StepTaken handed g (plainOf handed g ps) out at top x o) e w in
+        let v : StepTaken handed g (plainOf handed g ps) out at top (Fault n) o = subst
+        (λ (x : Step). StepTaken handed g (plainOf handed g ps) out at top x o) e w in
         whole ∙ ap (then (good .wrote)) v
 
     pub fill-falls : (l next : ℕ) (qs : Places) → r ≡ Paused l next qs → l < left
     fill-falls l next qs e =
-        let v : StepTaken handed g (plainOf handed g ps) out at top (Paused l next qs) o = subst (λ (x : Step). StepTaken handed g (plainOf handed g ps) out at top x o) e w in
+        let v : StepTaken handed g (plainOf handed g ps) out at top (Paused l next qs) o = subst
+        (λ (x : Step). StepTaken handed g (plainOf handed g ps) out at top x o) e w in
         let k = handed-length in
         omega (arith, v .4)
 
-    pub fill-again : (l next : ℕ) (qs : Places) → r ≡ Paused l next qs → length o ≡ length out → top ≡ at + left + 3 * unused ps → FilledSoFar cmd g first out₀ o l next (parametersOf qs)
+    pub fill-again : (l next : ℕ) (qs : Places) → r ≡ Paused l next qs → length o ≡ length out → top ≡ at + left + 3 * unused ps → FilledSoFar cmd g first
+        out₀ o l next (parametersOf qs)
     fill-again l next qs e same top-is =
-        let v : StepTaken handed g (plainOf handed g ps) out at top (Paused l next qs) o = subst (λ (x : Step). StepTaken handed g (plainOf handed g ps) out at top x o) e w in
+        let v : StepTaken handed g (plainOf handed g ps) out at top (Paused l next qs) o = subst
+        (λ (x : Step). StepTaken handed g (plainOf handed g ps) out at top x o) e w in
         let k = handed-length in
         let less : l < left = omega (arith, v .4) in
         let n : from + (left - l) ≡ length cmd - l = omega (arith, good .within) in
         let d : drop (length handed - l) handed ≡ drop (length cmd - l) cmd =
-        ap (λ (m : ℕ). drop (m - l) handed) k ∙ ap (λ (s : List ℕ). drop (left - l) s) (part-is cmd from) ∙ drop-drop (left - l) from cmd ∙ ap (λ (m : ℕ). drop m cmd) n in
+        ap (λ (m : ℕ). drop (m - l) handed) k ∙ ap (λ (s : List ℕ). drop (left - l) s) (part-is cmd from) ∙ drop-drop (left - l) from cmd ∙ ap
+        (λ (m : ℕ). drop m cmd) n in
         let size : length (drop (length handed - l) handed) ≡ l = length-drop (length handed - l) handed ∙ omega arith in
         let p = good .place in
         record {

@@ -47,8 +47,10 @@ perform-fits g (Decimal least) (TwoUnused p q) n =
 perform-fits g (Decimal least) (OneUnused d p) n =
     pick-told (Fits (OneUnused d p)) (nonNegative (held p)) (λ e. let s = decimal-short least (held p) n e in omega arith) (λ e. tt)
 perform-fits g (Decimal least) (AllUsed d e) n = tt
-perform-fits g (Byte c) (TwoUnused p q) n = pick-all (Fits (TwoUnused p q)) (both (leb 32768 (held p + c)) (ltb (plainValue (held p + c)) 256)) (omega arith) tt
-perform-fits g (Byte c) (OneUnused d p) n = pick-all (Fits (OneUnused d p)) (both (leb 32768 (held p + c)) (ltb (plainValue (held p + c)) 256)) (omega arith) tt
+perform-fits g (Byte c) (TwoUnused p q) n = pick-all (Fits (TwoUnused p q)) (both (leb 32768 (held p + c)) (ltb (plainValue (held p + c)) 256)) (omega arith)
+    tt
+perform-fits g (Byte c) (OneUnused d p) n = pick-all (Fits (OneUnused d p)) (both (leb 32768 (held p + c)) (ltb (plainValue (held p + c)) 256)) (omega arith)
+    tt
 perform-fits g (Byte c) (AllUsed d e) n = tt
 perform-fits g (ChangeEvery c) (TwoUnused p q) n =
     holds-all (Fits (TwoUnused p q)) (changed c (held p)) (λ h. holds-all (Fits (TwoUnused p q)) (changed c (held q)) (λ k. omega arith) tt) tt

@@ -65,8 +65,10 @@ module _ (s : List ℕ) (g : Raising) (ps : Parameters) (out₀ : List ℕ) (at 
       → StepTaken s g (plainOf s g ps) out₀ at (plainBound s ps at) r o
   at-next-sign l e r o v =
       let size : length (part s (i + 1)) ≡ length s - (i + 1) = part-length s (i + 1) in
-      let t : plainOf (drop i s) g ps ≡ percentOf (part s (i + 1)) Letter g ps = at-sign s g ps i l e ∙ ap (λ (x : List ℕ). percentOf x Letter g ps) (sym (part-is s (i + 1))) in
-      went-on s g (i + 1) (plainOf s g ps) (percentOf (part s (i + 1)) Letter g ps) (run .wrote) out₀ out at (at + i) _ _ r o (run .gives ∙ ap (then (run .wrote)) t) (run .stored) place (omega arith) v
+      let t : plainOf (drop i s) g ps ≡ percentOf (part s (i + 1)) Letter g ps = at-sign s g ps i l e ∙ ap (λ (x : List ℕ). percentOf x Letter g ps)
+      (sym (part-is s (i + 1))) in
+      went-on s g (i + 1) (plainOf s g ps) (percentOf (part s (i + 1)) Letter g ps) (run .wrote) out₀ out at (at + i) _ _ r o
+      (run .gives ∙ ap (then (run .wrote)) t) (run .stored) place (omega arith) v
 
   pub at-last : length s ≤ i → (top : ℕ) (q : Places) → ps ≡ parametersOf q → StepTaken s g (plainOf s g ps) out₀ at top (Done (at + i) q) out
   at-last l top q e = (

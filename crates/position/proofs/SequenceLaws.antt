@@ -37,7 +37,8 @@ module _ (s : List ℕ) (from : ℕ) (g : Raising) (ps : Parameters) (q : Sequen
     pub sequence-fits : length (outputBytes x) + 3 * unused (parametersOf qs) ≤ 2 + 3 * unused ps
     sequence-fits = subst (Fits ps) (sym e) (perform-fits g q ps (read .2))
 
-    pub sequence-done : (out o : List ℕ) (at end : ℕ) → end ≡ at + length (outputBytes x) → o ≡ sets out at (outputBytes x) → SequenceDone s from g ps out at (Until next end qs) o
+    pub sequence-done : (out o : List ℕ) (at end : ℕ) → end ≡ at + length (outputBytes x) → o ≡ sets out at (outputBytes x) → SequenceDone s from g ps out at
+        (Until next end qs) o
     sequence-done out o at end place stored = (outputBytes x, read .3 g ps ∙ rw (← e), place, stored, read .0, read .1, sequence-fits)
 
 -- ---- the loop: the bytes before i were read, and the whole gives what was written and then what the sequence at i gives
@@ -53,7 +54,16 @@ pub record Went (s : List ℕ) (g : Raising) (first : Parameters) (out₀ : List
 
 pub went-first : (s : List ℕ) (g : Raising) (first : Parameters) (out : List ℕ) (start : ℕ) → Went s g first out start out 0 start first
 went-first s g first out start =
-    record { inside = omega arith; same = refl; wrote = []; place = omega arith; gives = sym (then-none (percentOf s Letter g first)); stored = refl; below = omega arith }
+    record {
+      inside = omega arith;
+      same = refl;
+      wrote = [];
+      place = omega arith;
+      gives = sym (then-none (percentOf s Letter g first));
+      stored = refl;
+      below =
+          omega arith;
+    }
 
 -- After a sequence: the same, with what the bytes from `next` on give.
 pub record Came (s : List ℕ) (g : Raising) (first : Parameters) (out₀ : List ℕ) (start : ℕ) (out : List ℕ) (next at : ℕ) (qs : Places) : Type 0 where
@@ -80,7 +90,8 @@ module _ (s : List ℕ) (g : Raising) (first : Parameters) (out₀ : List ℕ) (
     below = omega (arith, d .2, d .4, d .5, d .6, w .below);
   }
 
-  pub stopped : (out : List ℕ) (i at : ℕ) (ps : Parameters) → Went s g first out₀ start out i at ps → (r : Refusal) → percentOf (drop i s) Letter g ps ≡ refused r
+  pub stopped : (out : List ℕ) (i at : ℕ) (ps : Parameters) → Went s g first out₀ start out i at ps → (r : Refusal) → percentOf (drop i s) Letter g ps ≡
+      refused r
       → percentOf s Letter g first ≡ refused r
   stopped out i at ps w r e = w .gives ∙ ap (then (w .wrote)) e
 
@@ -114,9 +125,11 @@ module _ (s : List ℕ) (g : Raising) (first : Parameters) (out₀ : List ℕ) (
         (w .wrote, rw from (w .gives), w .place, w .stored, omega (arith, w .begun), rw from (omega (arith, w .below)))
 
     -- The plain step's answer.
-    pub goes-on : next ≤ length s → (r : Step) (o : List ℕ) → StepTaken (part s next) g (plainOf (part s next) g (parametersOf qs)) out at (plainBound (part s next) (parametersOf qs) at) r o
+    pub goes-on : next ≤ length s → (r : Step) (o : List ℕ) → StepTaken (part s next) g (plainOf (part s next) g (parametersOf qs)) out at
+        (plainBound (part s next) (parametersOf qs) at) r o
         → StepTaken s g (percentOf s Letter g first) out₀ start (percentBound s first start) r o
     goes-on l r o v =
         let size = part-length s next in
         went-on s g next (percentOf s Letter g first) (plainOf (part s next) g (parametersOf qs)) (w .wrote) out₀ out start at _ _ r o
-        (w .gives ∙ ap (λ (x : List ℕ). then (w .wrote) (plainOf x g (parametersOf qs))) (sym (part-is s next))) (w .stored) (w .place) (omega (arith, w .below)) v
+        (w .gives ∙ ap (λ (x : List ℕ). then (w .wrote) (plainOf x g (parametersOf qs))) (sym (part-is s next))) (w .stored) (w .place)
+        (omega (arith, w .below)) v

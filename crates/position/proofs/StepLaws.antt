@@ -35,7 +35,8 @@ left-of-part : (s : List ℕ) (j left : ℕ) → left < length (part s j) → dr
 left-of-part s j left h =
     let e : length (part s j) ≡ length s - j = part-length s j in
     let k : j + (length s - j - left) ≡ length s - left = omega arith in
-    ap (λ (n : ℕ). drop (n - left) (part s j)) e ∙ ap (λ (l : List ℕ). drop (length s - j - left) l) (part-is s j) ∙ drop-drop (length s - j - left) j s ∙ ap (λ (n : ℕ). drop n s) k
+    ap (λ (n : ℕ). drop (n - left) (part s j)) e ∙ ap (λ (l : List ℕ). drop (length s - j - left) l) (part-is s j) ∙ drop-drop (length s - j - left) j s ∙ ap
+    (λ (n : ℕ). drop n s) k
 
 -- Bytes w that were written, and then steps over a part of the command.
 pub went-on : (s : List ℕ) (g : Raising) (j : ℕ) (t u : Filled) (w out m : List ℕ) (at next low top : ℕ) (r : Step) (o : List ℕ)

@@ -65,7 +65,7 @@ fn write_digits(n: u16, count: usize, out: &mut [u8], at: usize)
     let mut rest = n;
     while i > 0 {
         i -= 1;
-        put_byte(out, at + i, 48 + (rest % 10) as u8);
+        put_byte(out, at + i, b'0' + (rest % 10) as u8);
         rest /= 10;
     }
 }
@@ -89,12 +89,12 @@ fn write_number(n: u16, least: u8, out: &mut [u8], at: usize) -> usize
         return write_wide(n, least, out, at);
     }
     if n < 10 {
-        put_byte(out, at, 48 + n as u8);
+        put_byte(out, at, b'0' + n as u8);
         return at + 1;
     }
     if n < 100 {
-        put_byte(out, at, 48 + (n / 10) as u8);
-        put_byte(out, at + 1, 48 + (n % 10) as u8);
+        put_byte(out, at, b'0' + (n / 10) as u8);
+        put_byte(out, at + 1, b'0' + (n % 10) as u8);
         return at + 2;
     }
     write_wide(n, least, out, at)

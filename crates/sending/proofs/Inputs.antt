@@ -32,17 +32,20 @@ same-test false false f g = refl
 good-held : (n : ℕ) → leb (heldFor n) 42767 ≡ leb n 9999
 good-held n =
     pick-told (λ (h : ℕ). leb h 42767 ≡ leb n 9999) (leb n 32767)
-    (λ e. same-test (leb (32768 + n) 42767) (leb n 9999) (λ t. le-leb n 9999 (omega (arith, leb-true (32768 + n) 42767 t))) (λ t. le-leb (32768 + n) 42767 (omega (arith, leb-true n 9999 t))))
+    (λ e. same-test (leb (32768 + n) 42767) (leb n 9999) (λ t. le-leb n 9999 (omega (arith, leb-true (32768 + n) 42767 t)))
+    (λ t. le-leb (32768 + n) 42767 (omega (arith, leb-true n 9999 t))))
     (λ e. sym (lt-leb n 9999 (omega (arith, leb-false n 32767 e))))
 
 held-plainly : (n : ℕ) → n ≤ 9999 → heldFor n ≡ 32768 + n
 held-plainly n h = let l : n ≤ 32767 = omega arith in rw (le-leb _ _ l)
 
 module _ (row column h k : ℕ) (eh : h ≡ heldFor row) (ek : k ≡ heldFor column) where
-  pub inputs-held : (lines speed : ℕ) (t : Bool) → t ≡ both (both (leb h 42767) (leb k 42767)) (goodSpeed lines speed) → t ≡ both (goodPlace row column) (goodSpeed lines speed)
+  pub inputs-held : (lines speed : ℕ) (t : Bool) → t ≡ both (both (leb h 42767) (leb k 42767)) (goodSpeed lines speed) → t ≡ both (goodPlace row column)
+      (goodSpeed lines speed)
   inputs-held lines speed t e = e ∙ rw (eh, ek, good-held row, good-held column)
 
-  pub filled-held : (cmd back up : List ℕ) → row ≤ 9999 → column ≤ 9999 → filledFor cmd (record { 0 = h }) (record { 0 = k }) back up ≡ fillIn cmd row column back up
+  pub filled-held : (cmd back up : List ℕ) → row ≤ 9999 → column ≤ 9999 → filledFor cmd (record { 0 = h }) (record { 0 = k }) back up ≡ fillIn cmd row column
+      back up
   unfolding fillIn
   filled-held cmd back up hr hc = rw (eh ∙ held-plainly row hr, ek ∙ held-plainly column hc)
 

@@ -24,5 +24,6 @@ tail-back front d p n m e l =
 -- What the buffer holds after n bytes were written and the pads after them: xs is the buffer with the bytes, and ys the lent tail with the
 -- pads.
 pub after-pads : (l out xs ys : List ℕ) (n pads pad : ℕ) → length l ≡ n → n ≤ length out → xs ≡ l ++ drop n out
-    → ys ≡ replicate pads pad ++ drop pads (take (length xs - n) (drop n xs)) → putMid n (length xs - n) xs ys ≡ l ++ replicate pads pad ++ drop (n + pads) out
+    → ys ≡ replicate pads pad ++ drop pads (take (length xs - n) (drop n xs)) → putMid n (length xs - n) xs ys ≡ l ++ replicate pads pad ++ drop (n + pads)
+    out
 after-pads l out xs ys n pads pad e h ex ey = rw (ey, ex) (tail-back l out (replicate pads pad) n pads e h)

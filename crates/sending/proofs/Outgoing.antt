@@ -8,7 +8,23 @@ use Rattle.spec.specs.Choice.{pick, both}
 use Rattle.spec.specs.Padding.{Prefix, Split, prefixOf, delayFor, padCount}
 use Rattle.spec.specs.Position as Position
 use Rattle.spec.specs.Position.{body, fault, fillIn}
-use Rattle.spec.specs.Sending.{Prepared, refused, copied, withBytes, filledIn, prepared, preparedAt, sends, stops, padsOf, padded, goodSpeed, goodPlace, outgoing, outgoingAt}
+use Rattle.spec.specs.Sending.{
+  Prepared,
+  refused,
+  copied,
+  withBytes,
+  filledIn,
+  prepared,
+  preparedAt,
+  sends,
+  stops,
+  padsOf,
+  padded,
+  goodSpeed,
+  goodPlace,
+  outgoing,
+  outgoingAt,
+}
 use Rattle.spec.proofs.PaddingLaws.{Splits, delay-below}
 use Rattle.position.proofs.FillSteps.{part, part-is}
 use Rattle.padding.specs.Reading.{PrefixRead}
@@ -39,7 +55,8 @@ module _ (cmd : List ℕ) (lines speed pad : ℕ) where
   unfolding outgoing prepared
   send-refused r j = refusal copied (λ r. refl) cmd (goodSpeed lines speed) lines speed pad r j
 
-  pub send-body : (from pads : ℕ) → CommandJudged cmd (goodSpeed lines speed) lines speed (Body from pads) → outgoing cmd lines speed pad ≡ sends (part cmd from ++ replicate pads pad)
+  pub send-body : (from pads : ℕ) → CommandJudged cmd (goodSpeed lines speed) lines speed (Body from pads) → outgoing cmd lines speed pad ≡ sends
+      (part cmd from ++ replicate pads pad)
   unfolding outgoing prepared padsOf
   send-body from pads j = rw (j .0, j .3, part-is cmd from, j .5)
 
@@ -47,7 +64,8 @@ module _ (cmd : List ℕ) (lines speed pad : ℕ) where
     pub send-at-refused : (r : Refusal) → CommandJudged cmd (both (goodPlace row column) (goodSpeed lines speed)) lines speed (Refused r)
         → outgoingAt cmd row column back up lines speed pad ≡ stops r
     unfolding outgoingAt preparedAt
-    send-at-refused r j = refusal (λ x. filledIn x row column back up) (λ r. refl) cmd (both (goodPlace row column) (goodSpeed lines speed)) lines speed pad r j
+    send-at-refused r j = refusal (λ x. filledIn x row column back up) (λ r. refl) cmd (both (goodPlace row column) (goodSpeed lines speed)) lines speed pad r
+        j
 
     pub send-at-body : (from pads : ℕ) → CommandJudged cmd (both (goodPlace row column) (goodSpeed lines speed)) lines speed (Body from pads)
         → outgoingAt cmd row column back up lines speed pad ≡ withPads (fillIn (part cmd from) row column back up) pads pad

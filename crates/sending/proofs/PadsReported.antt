@@ -11,7 +11,24 @@ use Rattle.spec.specs.Choice.{pick, both}
 use Rattle.spec.specs.Padding.{Prefix, Split, prefixOf, delayFor, padCount}
 use Rattle.spec.specs.Position.{Body, body, fault, fillIn}
 use Rattle.spec.specs.Answers.{put, keeping}
-use Rattle.spec.specs.Sending.{copied, withBytes, filledIn, prepared, preparedAt, sends, stops, padsOf, padded, goodSpeed, goodPlace, outgoing, outgoingAt, delivered, sendOutcome, sendAtOutcome}
+use Rattle.spec.specs.Sending.{
+  copied,
+  withBytes,
+  filledIn,
+  prepared,
+  preparedAt,
+  sends,
+  stops,
+  padsOf,
+  padded,
+  goodSpeed,
+  goodPlace,
+  outgoing,
+  outgoingAt,
+  delivered,
+  sendOutcome,
+  sendAtOutcome,
+}
 use Rattle.spec.proofs.PaddingLaws.{PaddingLaw, padding-law}
 use Rattle.spec.specs.declared.Refusal.{Refusal}
 use Rattle.spec.specs.declared.Refusal.the-variants.{NoRoom, OutOfRange}
@@ -30,11 +47,13 @@ counted : (l buffer : List ℕ) (n : ℕ) → delivered (sends l) buffer .answer
 unfolding delivered put
 counted l buffer n = go (leb (length l) (length buffer))
   where
-    go : (t : Bool) → pick t (record { answer = Count (length l); buffer = l ++ drop (length l) buffer }) (keeping (Refused NoRoom) buffer) .answer ≡ Count n → length l ≡ n
+    go : (t : Bool) → pick t (record { answer = Count (length l); buffer = l ++ drop (length l) buffer }) (keeping (Refused NoRoom) buffer) .answer ≡ Count n
+        → length l ≡ n
     go true e = cc
     go false e = not-counted NoRoom n e
 
-reported : (p : Split) (bytes : List ℕ) (lines speed pad n : ℕ) → length (bytes ++ replicate (padCount (delayFor (p .delay) (p .star) lines) speed) pad) ≡ n → Reported p bytes lines speed n
+reported : (p : Split) (bytes : List ℕ) (lines speed pad n : ℕ) → length (bytes ++ replicate (padCount (delayFor (p .delay) (p .star) lines) speed) pad) ≡ n →
+    Reported p bytes lines speed n
 reported p bytes lines speed pad n e =
     let pads = padCount (delayFor (p .delay) (p .star) lines) speed in
     let all : length bytes + pads ≡ n = sym (padded-length bytes pads pad) ∙ e in
@@ -81,6 +100,7 @@ module _ (cmd : List ℕ) (lines speed pad : ℕ) (buffer : List ℕ) (n : ℕ) 
         by-prefix (Prefix.split p) e h = by-body p (fillIn (p .body) row column back up) e refl h
         by-prefix (Prefix.refused r) e h = not-stopped r buffer n h
 
-        by-inputs : (t : Bool) → delivered (pick t (padded (filledIn (prefixOf cmd) row column back up) lines speed pad) (stops OutOfRange)) buffer .answer ≡ Count n → SentAt
+        by-inputs : (t : Bool) → delivered (pick t (padded (filledIn (prefixOf cmd) row column back up) lines speed pad) (stops OutOfRange)) buffer .answer ≡
+            Count n → SentAt
         by-inputs true h = by-prefix (prefixOf cmd) refl h
         by-inputs false h = not-stopped OutOfRange buffer n h

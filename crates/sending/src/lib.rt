@@ -14,16 +14,22 @@ use compensations::fill_in;
 use padding::Prefix;
 use padding::pad_count;
 use padding::read_prefix;
+use places::ZERO;
 use places::both_unused;
 use spec::Refusal;
 use spec::Written;
 use spec::position::Column;
 use spec::position::Row;
 
-// How 9,999 is held.
-const LAST: u16 = 42767;
+// How the last row and the last column, 9,999, are held.
+const LAST: u16 = ZERO + 9999;
 
 // ---- the inputs and the pads
+
+const MOST_LINES: u64 = 1000;
+
+// In bits a second.
+const TOP_SPEED: u64 = 115200;
 
 // "Lines 1..1,000, speed 0..115,200 bits a second, else 12."
 fn good_speed(lines: u64, speed: u64) -> bool
@@ -32,20 +38,25 @@ fn good_speed(lines: u64, speed: u64) -> bool
     if lines < 1 {
         return false;
     }
-    if lines > 1000 {
+    if lines > MOST_LINES {
         return false;
     }
-    speed <= 115200
+    speed <= TOP_SPEED
 }
+
+// The greatest value that a row or a column can have, and how it is held.
+const GREATEST: u64 = 32767;
+
+const HELD_GREATEST: u16 = 65535;
 
 // A number that comes in, as a row or a column holds it. What is above 32,767 is held as that, which is out of range as well.
 fn held_for(n: u64) -> u16
     ensures { λ r. ⌜ r ≡ heldFor n ⌝ }
 {
-    if n > 32767 {
-        return 65535;
+    if n > GREATEST {
+        return HELD_GREATEST;
     }
-    32768 + n as u16
+    ZERO + n as u16
 }
 
 // Row and column "each 0..9,999".
@@ -200,7 +211,7 @@ fn send_filled(
             if pads > capacity - n {
                 return Written::Refused(Refusal::NoRoom);
             }
-            let filled = fill_in(body, first, back, up, capacity, out);
+            fill_in(body, first, back, up, capacity, out);
             write_pads(&mut out[n..], pads, pad);
             return Written::Count(n + pads);
         }

@@ -61,4 +61,5 @@ module _ (c : Change) (s : Places) where
   pub column-first : s .turn ≡ ColumnRow → changeBothEffect c s ≡ changeEvery c (parametersOf s)
   unfolding parametersOf
   column-first e =
-      simp e (either-order (changed c (s .row .0)) (changed c (s .column .0)) (λ h k. Gives Nothing (TwoUnused (Column (record { 0 = k })) (Row (record { 0 = h })))))
+      simp e (either-order (changed c (s .row .0)) (changed c (s .column .0))
+      (λ h k. Gives Nothing (TwoUnused (Column (record { 0 = k })) (Row (record { 0 = h })))))

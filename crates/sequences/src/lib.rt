@@ -1,7 +1,7 @@
 // Percent sequences: each is read, and then done to the parameters.
 ghost use mathlib.Core.Path.{_≡_};
 ghost use mathlib.Core.Logic.{_⊎_};
-ghost use Prim.Native.Nat.{_+_, _≤_, _<_};
+ghost use Prim.Native.Nat.{_+_, _<_};
 ghost use lib.ListN.{length, getD};
 ghost use Rattle.spec.specs.Values.{raised, inRange, changed};
 ghost use Rattle.spec.specs.Sequences.{withNext, asDecimal, asByte, changeNext, changeEvery, exchange as exchanged, perform as doing};
@@ -12,6 +12,7 @@ ghost use Rattle.sequences.specs.Effects.{effectOf, raisedIf, decimalEff
 use places::Next;
 use places::Places;
 use places::Turn;
+use places::ZERO;
 use places::next_parameter;
 use places::take_next;
 use places::with_column;
@@ -28,8 +29,8 @@ use spec::position::Raising;
 use spec::position::Row;
 use spec::position::Sequence;
 
-// How the value 0 is held.
-const ZERO: u32 = 32768;
+// How the value 0 is held, wide enough for sums.
+const WIDE_ZERO: u32 = 32768;
 
 // ---- the byte that is sent
 
@@ -88,28 +89,28 @@ fn change_value(c: Change, value: u16) -> Changed
     match c {
         Change::Increment => in_range(h + 1),
         Change::Xor => {
-            if h < ZERO {
+            if h < WIDE_ZERO {
                 return Changed::OutOfRange;
             }
-            in_range(ZERO + ((h - ZERO) ^ 96))
+            in_range(WIDE_ZERO + ((h - WIDE_ZERO) ^ 96))
         }
         Change::AddAbove(x, y) => {
-            if h > ZERO + x as u32 {
+            if h > WIDE_ZERO + x as u32 {
                 return in_range(h + y as u32);
             }
             in_range(h)
         }
         Change::Bcd => {
-            if h < ZERO {
+            if h < WIDE_ZERO {
                 return Changed::OutOfRange;
             }
-            in_range(ZERO + (16 * ((h - ZERO) / 10) + (h - ZERO) % 10))
+            in_range(WIDE_ZERO + (16 * ((h - WIDE_ZERO) / 10) + (h - WIDE_ZERO) % 10))
         }
         Change::Delta => {
-            if h < ZERO {
+            if h < WIDE_ZERO {
                 return Changed::OutOfRange;
             }
-            in_range(h - 2 * ((h - ZERO) % 16))
+            in_range(h - 2 * ((h - WIDE_ZERO) % 16))
         }
     }
 }
@@ -152,10 +153,9 @@ fn read_operands(command: &[u8], from: usize, b: u8) -> Reading
 
 // A sequence, from the byte after its sign on.
 pub fn read_sequence(command: &[u8], from: usize) -> Reading
-    requires { ⌜ from ≤ length (now command) ⌝ }
     ensures { λ r. ⌜ SequenceRead (now (command .entry)) from r ⌝ }
 {
-    if from == command.len() {
+    if from >= command.len() {
         return Reading::Unknown;
     }
     let b = command[from];
@@ -188,10 +188,10 @@ pub enum Performed {
 fn as_decimal(least: u8, h: u16, ps: Places) -> Performed
     ensures { λ r. ⌜ effectOf r ≡ decimalEffect least h (parametersOf ps) ⌝ }
 {
-    if h < 32768 {
+    if h < ZERO {
         return Performed::Refused(Refusal::OutOfRange);
     }
-    Performed::Gives(Output::Number(h - 32768, least), take_next(ps, 0))
+    Performed::Gives(Output::Number(h - ZERO, least), take_next(ps, 0))
 }
 
 // `%d`, `%2`, `%3`.
@@ -211,13 +211,13 @@ fn as_byte(raises: bool, c: u8, h: u16, ps: Places) -> Performed
     ensures { λ r. ⌜ effectOf r ≡ byteEffect raises c h (parametersOf ps) ⌝ }
 {
     let sum = h as u32 + c as u32;
-    if sum < ZERO {
+    if sum < WIDE_ZERO {
         return Performed::Refused(Refusal::OutOfRange);
     }
-    if sum - ZERO >= 256 {
+    if sum - WIDE_ZERO >= 256 {
         return Performed::Refused(Refusal::OutOfRange);
     }
-    let r = raise_if(raises, (sum - ZERO) as u8);
+    let r = raise_if(raises, (sum - WIDE_ZERO) as u8);
     Performed::Gives(Output::Single(r.byte), take_next(ps, r.compensations))
 }
 

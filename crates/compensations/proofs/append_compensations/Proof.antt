@@ -15,7 +15,8 @@ owes-nothing-requires c κs = search needs
 returns : tie.Need-returns
 returns c =
     let a = c .before .before .before .before .before .args in
-    rw (settled (a .back .now) (a .up .now) (a .ps) (sym (c .before .owes-nothing .ensures) ∙ c .if1 .taken)) (omega arith, c .before .before .before .before .before .pre, refl)
+    rw (settled (a .back .now) (a .up .now) (a .ps) (sym (c .before .owes-nothing .ensures) ∙ c .if1 .taken))
+    (omega arith, c .before .before .before .before .before .pre, refl)
 
 enum-told : tie.Need-enum-told
 enum-told c = search needs
@@ -55,10 +56,13 @@ unfolding compensations parametersOf
 returns-2 c =
     let a = c .before .before .before .before .before .before .before .before .before .before .before .before .before .before .before .args in
     let full = rw (c .enum-told6 .given .1) at (c .before .before .before .before .append-for-row2 .ensures) in
-    rw (c .before .before .before .before .before .before .enum-told5 .given .1) (then-full (repeated (a .ps .ups) (compensation (a .back .now) (a .up .now) (OfRow (a .ps .row)))) (repeated (a .ps .backs) (compensation (a .back .now) (a .up .now) (OfColumn (a .ps .column)))) (a .capacity) (a .out .now) (a .at) full)
+    rw (c .before .before .before .before .before .before .enum-told5 .given .1)
+    (then-full (repeated (a .ps .ups) (compensation (a .back .now) (a .up .now) (OfRow (a .ps .row))))
+    (repeated (a .ps .backs) (compensation (a .back .now) (a .up .now) (OfColumn (a .ps .column)))) (a .capacity) (a .out .now) (a .at) full)
 
 append-for-column-requires-2 : tie.Need-append-for-column-requires-2
-append-for-column-requires-2 c κs = (rw (c .before .before .next .given .1) at (c .before .before .before .before .before .before .append-for-row2 .ensures)) .1
+append-for-column-requires-2 c κs =
+    (rw (c .before .before .next .given .1) at (c .before .before .before .before .before .before .append-for-row2 .ensures)) .1
 
 enum-told-7 : tie.Need-enum-told-7
 enum-told-7 c = search needs
@@ -80,10 +84,13 @@ unfolding compensations parametersOf
 returns-3 c =
     let a = c .before .before .before .before .before .before .before .before .before .before .before .before .before .before .before .args in
     let full = rw (c .enum-told8 .given .1) at (c .before .before .before .before .append-for-column3 .ensures) in
-    rw (c .before .before .before .before .before .before .enum-told7 .given .1) (then-full (repeated (a .ps .backs) (compensation (a .back .now) (a .up .now) (OfColumn (a .ps .column)))) (repeated (a .ps .ups) (compensation (a .back .now) (a .up .now) (OfRow (a .ps .row)))) (a .capacity) (a .out .now) (a .at) full)
+    rw (c .before .before .before .before .before .before .enum-told7 .given .1)
+    (then-full (repeated (a .ps .backs) (compensation (a .back .now) (a .up .now) (OfColumn (a .ps .column))))
+    (repeated (a .ps .ups) (compensation (a .back .now) (a .up .now) (OfRow (a .ps .row)))) (a .capacity) (a .out .now) (a .at) full)
 
 append-for-row-requires-3 : tie.Need-append-for-row-requires-3
-append-for-row-requires-3 c κs = (rw (c .before .before .next2 .given .1) at (c .before .before .before .before .before .before .append-for-column3 .ensures)) .1
+append-for-row-requires-3 c κs =
+    (rw (c .before .before .next2 .given .1) at (c .before .before .before .before .before .before .append-for-column3 .ensures)) .1
 
 returns-4 : tie.Need-returns-4
 unfolding compensations parametersOf
@@ -113,10 +120,15 @@ same-length-5 c = search needs
 returns-8 : tie.Need-returns-8
 unfolding compensations parametersOf
 returns-8 c =
-    let a = c .before .before .before .before .before .before .before .before .before .before .before .before .before .before .before .before .before .before .before .before .args in
-    let first = rw (c .before .before .before .before .before .next .given .1) at (c .before .before .before .before .before .before .before .before .before .append-for-row2 .ensures) in
+    let back12 = c .before .before .before .before .before .before .before .before .before .before .before .before in
+    let a = back12 .before .before .before .before .before .before .before .before .args in
+    let first = rw (c .before .before .before .before .before .next .given .1) at
+    (c .before .before .before .before .before .before .before .before .before .append-for-row2 .ensures) in
     let r = c .before .before .append-for-column2 in
-    rw (c .before .before .before .before .before .before .before .before .before .before .before .enum-told5 .given .1) (then-appended (repeated (a .ps .ups) (compensation (a .back .now) (a .up .now) (OfRow (a .ps .row)))) (repeated (a .ps .backs) (compensation (a .back .now) (a .up .now) (OfColumn (a .ps .column)))) (a .capacity) (a .out .now) (a .at) _ _ (r .result) _ first (r .ensures))
+    rw (c .before .before .before .before .before .before .before .before .before .before .before .enum-told5 .given .1)
+    (then-appended (repeated (a .ps .ups) (compensation (a .back .now) (a .up .now) (OfRow (a .ps .row))))
+    (repeated (a .ps .backs) (compensation (a .back .now) (a .up .now) (OfColumn (a .ps .column)))) (a .capacity) (a .out .now) (a .at) _ _
+    (r .result) _ first (r .ensures))
 
 same-length-6 : tie.Need-same-length-6
 same-length-6 c = search needs
@@ -124,10 +136,15 @@ same-length-6 c = search needs
 returns-9 : tie.Need-returns-9
 unfolding compensations parametersOf
 returns-9 c =
-    let a = c .before .before .before .before .before .before .before .before .before .before .before .before .before .before .before .before .before .before .before .before .args in
-    let first = rw (c .before .before .before .before .before .next2 .given .1) at (c .before .before .before .before .before .before .before .before .before .append-for-column3 .ensures) in
+    let back12 = c .before .before .before .before .before .before .before .before .before .before .before .before in
+    let a = back12 .before .before .before .before .before .before .before .before .args in
+    let first = rw (c .before .before .before .before .before .next2 .given .1) at
+    (c .before .before .before .before .before .before .before .before .before .append-for-column3 .ensures) in
     let r = c .before .before .append-for-row3 in
-    rw (c .before .before .before .before .before .before .before .before .before .before .before .enum-told7 .given .1) (then-appended (repeated (a .ps .backs) (compensation (a .back .now) (a .up .now) (OfColumn (a .ps .column)))) (repeated (a .ps .ups) (compensation (a .back .now) (a .up .now) (OfRow (a .ps .row)))) (a .capacity) (a .out .now) (a .at) _ _ (r .result) _ first (r .ensures))
+    rw (c .before .before .before .before .before .before .before .before .before .before .before .enum-told7 .given .1)
+    (then-appended (repeated (a .ps .backs) (compensation (a .back .now) (a .up .now) (OfColumn (a .ps .column))))
+    (repeated (a .ps .ups) (compensation (a .back .now) (a .up .now) (OfRow (a .ps .row)))) (a .capacity) (a .out .now) (a .at) _ _ (r .result) _
+    first (r .ensures))
 
 pub append-compensations-spec : {M : Type 1} → statement M
 append-compensations-spec =

@@ -49,8 +49,10 @@ loop-again : tie.Need-loop-again Inv-loop μ-loop
 loop-again c =
     let a = c .before .before .before .before .before .before .before .before .before .before .before .args in
     let l = c .before .before .before .before .before .before .before .before .loop in
-    let more = rw (c .before .next .given .1) at (c .before .before .before .before .before .append .ensures) in
-    (repeated-again (a .bytes .now) (a .capacity) (a .out .now) (a .at) (a .count) (l .out) (l .end) (l .i) (l .inv .0) _ _ (omega arith) more, c .before .before .before .before .before .append .kept .1 .1 .0 ∙ l .inv .1)
+    let more = rw (c .before .next .given .1) at (c .before .before .before .before .before .append .ensures) in (
+      repeated-again (a .bytes .now) (a .capacity) (a .out .now) (a .at) (a .count) (l .out) (l .end) (l .i) (l .inv .0) _ _ (omega arith) more,
+      c .before .before .before .before .before .append .kept .1 .1 .0 ∙ l .inv .1,
+    )
 
 same-length-2 : tie.Need-same-length-2 Inv-loop μ-loop
 same-length-2 c = c .before .loop .inv .1

@@ -20,7 +20,9 @@ same-length c = search needs
 returns : tie.Need-returns
 returns c =
     let a = c .before .before .before .before .before .before .before .before .before .before .before .before .args in
-    faulty (a .back .now) (a .up .now) _ _ (rw (c .before .before .before .before .before .before .before .raising-for .ensures, c .before .end .given .1) at (c .before .before .before .before .before .fill-body .ensures))
+    faulty (a .back .now) (a .up .now) _ _
+    (rw (c .before .before .before .before .before .before .before .raising-for .ensures, c .before .end .given .1) at
+    (c .before .before .before .before .before .fill-body .ensures))
 
 enum-known-end-2 : tie.Need-enum-known-end-2
 enum-known-end-2 c = search needs
@@ -31,7 +33,8 @@ same-length-2 c = search needs
 returns-2 : tie.Need-returns-2
 returns-2 c =
     let a = c .before .before .before .before .before .before .before .before .before .before .before .before .before .args in
-    let f = rw (c .before .before .before .before .before .before .before .before .raising-for .ensures, c .before .before .end2 .given .1) at (c .before .before .before .before .before .before .fill-body .ensures) in
+    let f = rw (c .before .before .before .before .before .before .before .before .raising-for .ensures, c .before .before .end2 .given .1) at
+    (c .before .before .before .before .before .before .fill-body .ensures) in
     no-room (a .back .now) (a .up .now) _ (a .out .now) _ _ _ f (a .capacity) (omega arith)
 
 append-compensations-requires : tie.Need-append-compensations-requires
@@ -48,8 +51,13 @@ same-length-3 c = search needs
 
 returns-3 : tie.Need-returns-3
 returns-3 c =
-    let a = c .before .before .before .before .before .before .before .before .before .before .before .before .before .before .before .before .before .before .before .args in
-    let f = rw (c .before .before .before .before .before .before .before .before .before .before .before .before .before .before .raising-for .ensures, c .before .before .before .before .before .before .before .before .end2 .given .1) at (c .before .before .before .before .before .before .before .before .before .before .before .before .fill-body .ensures) in
+    let back12 = c .before .before .before .before .before .before .before .before .before .before .before .before in
+    let a = back12 .before .before .before .before .before .before .before .args in
+    let f = rw (
+      c .before .before .before .before .before .before .before .before .before .before .before .before .before .before .raising-for .ensures,
+      c .before .before .before .before .before .before .before .before .end2 .given .1,
+    ) at
+    (c .before .before .before .before .before .before .before .before .before .before .before .before .fill-body .ensures) in
     let full = rw (c .enum-told .given .1) at (c .before .before .before .before .append-compensations .ensures) in
     no-room (a .back .now) (a .up .now) _ (a .out .now) _ _ _ f (a .capacity) full
 
@@ -58,8 +66,11 @@ same-length-4 c = search needs
 
 returns-4 : tie.Need-returns-4
 returns-4 c =
-    let a = c .before .before .before .before .before .before .before .before .before .before .before .before .before .before .before .before .before .before .before .before .args in
-    let f = rw (c .before .before .before .before .before .before .before .before .before .before .before .before .before .before .before .raising-for .ensures, c .before .before .before .before .before .before .before .before .before .end2 .given .1) at (c .before .before .before .before .before .before .before .before .before .before .before .before .before .fill-body .ensures) in
+    let back12 = c .before .before .before .before .before .before .before .before .before .before .before .before in
+    let a = back12 .before .before .before .before .before .before .before .before .args in
+    let back9 = c .before .before .before .before .before .before .before .before .before in
+    let f = rw (back9 .before .before .before .before .before .before .raising-for .ensures, back9 .end2 .given .1) at
+    (back9 .before .before .before .before .fill-body .ensures) in
     let appended = rw (c .before .total .given .1) at (c .before .before .before .before .before .append-compensations .ensures) in
     has-room (a .back .now) (a .up .now) _ (a .out .now) _ _ _ f (a .capacity) _ _ appended
 

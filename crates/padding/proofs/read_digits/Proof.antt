@@ -50,7 +50,8 @@ record Known (b value : ℕ) : Type 0 where
   small : value < 100000
 
 known : (c : tie.Else2 Inv-loop μ-loop)
-    → Known (getD (c .before .before .before .before .before .before .before .args .s .now) (c .before .before .before .before .before .loop .i) 0) (c .before .before .before .before .before .loop .value)
+    → Known (getD (c .before .before .before .before .before .before .before .args .s .now) (c .before .before .before .before .before .loop .i) 0)
+    (c .before .before .before .before .before .loop .value)
 known c =
     let l = c .before .before .before .before .before .loop in
     let yes = sym (c .before .is-digit .ensures) ∙ not-false _ (c .if2 .left) in

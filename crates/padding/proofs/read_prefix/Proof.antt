@@ -44,7 +44,8 @@ returns-4 c =
     let s = c .before .before .before .before .before .before .before .before .before .args .command .now in
     let d = c .before .before .before .before .before .before .before .read-digits in
     let w = d .ensures .within in
-    prefix-plain s (d .result .value) (d .result .end) (d .ensures) (c .before .before .before .before .before .before .if1 .left) (omega arith) (omega arith) (c .before .if4 .taken) (c .read-star .result) (c .read-star .ensures)
+    prefix-plain s (d .result .value) (d .result .end) (d .ensures) (c .before .before .before .before .before .before .if1 .left) (omega arith) (omega arith)
+    (c .before .if4 .taken) (c .read-star .result) (c .read-star .ensures)
 
 add-read-digits : tie.Need-add-read-digits
 add-read-digits c = search needs
@@ -61,7 +62,8 @@ returns-5 c =
     let d = c .before .before .before .before .before .before .before .before .read-digits in
     let e = c .before .read-digits2 in
     let w = d .ensures .within in
-    prefix-point s (d .result .value) (d .result .end) (d .ensures) (c .before .before .before .before .before .before .before .if1 .left) (omega arith) (e .result .value) (e .result .end) (omega arith) (c .before .before .if4 .left) (e .ensures) (c .if5 .taken)
+    prefix-point s (d .result .value) (d .result .end) (d .ensures) (c .before .before .before .before .before .before .before .if1 .left) (omega arith)
+    (e .result .value) (e .result .end) (omega arith) (c .before .before .if4 .left) (e .ensures) (c .if5 .taken)
 
 add-if6 : tie.Need-add-if6
 add-if6 c = search needs
@@ -72,7 +74,8 @@ returns-6 c =
     let d = c .before .before .before .before .before .before .before .before .before .read-digits in
     let e = c .before .before .read-digits2 in
     let w = d .ensures .within in
-    prefix-two s (d .result .value) (d .result .end) (d .ensures) (c .before .before .before .before .before .before .before .before .if1 .left) (omega arith) (e .result .value) (e .result .end) (omega arith) (c .before .before .before .if4 .left) (e .ensures) (omega arith)
+    prefix-two s (d .result .value) (d .result .end) (d .ensures) (c .before .before .before .before .before .before .before .before .if1 .left) (omega arith)
+    (e .result .value) (e .result .end) (omega arith) (c .before .before .before .if4 .left) (e .ensures) (omega arith)
 
 add-read-star : tie.Need-add-read-star
 add-read-star c =
@@ -91,7 +94,10 @@ returns-7 c =
     let d = c .before .before .before .before .before .before .before .before .before .before .before .read-digits in
     let e = c .before .before .before .before .read-digits2 in
     let w = d .ensures .within in
-    prefix-tenth s (d .result .value) (d .result .end) (d .ensures) (c .before .before .before .before .before .before .before .before .before .before .if1 .left) (omega arith) (e .result .value) (e .result .end) (omega arith) (c .before .before .before .before .before .if4 .left) (e .ensures) (c .before .before .before .if5 .left) (omega arith) (c .read-star2 .result) (c .read-star2 .ensures)
+    prefix-tenth s (d .result .value) (d .result .end) (d .ensures)
+    (c .before .before .before .before .before .before .before .before .before .before .if1 .left) (omega arith) (e .result .value) (e .result .end)
+    (omega arith) (c .before .before .before .before .before .if4 .left) (e .ensures) (c .before .before .before .if5 .left) (omega arith)
+    (c .read-star2 .result) (c .read-star2 .ensures)
 
 pub read-prefix-spec : {M : Type 1} → statement M
 read-prefix-spec =

@@ -55,12 +55,19 @@ percent-μ-loop command g out₀ start depth i₀ at₀ ps₀ out i at ps = leng
 
 -- After a sequence that was done.
 arrived : (t : ℕ) (c : percent-lts.After-sequenced2 (percent-claims t) (percent-at t) percent.Post percent-Inv-loop percent-μ-loop)
-    → Came (c .before .before .before .before .before .before .before .before .before .args .command .now) (c .before .before .before .before .before .before .before .before .before .args .g) (parametersOf (c .before .before .before .before .before .before .before .before .before .args .first)) (c .before .before .before .before .before .before .before .before .before .args .out .now) (c .before .before .before .before .before .before .before .before .before .args .start) (c .before .before .before .before .do-sequence .last .1 .1 .1 .1 .0) (c .sequenced2 .given .0 .0) (c .sequenced2 .given .0 .1 .0) (c .sequenced2 .given .0 .1 .1 .0)
+    → Came (c .before .before .before .before .before .before .before .before .before .args .command .now)
+    (c .before .before .before .before .before .before .before .before .before .args .g)
+    (parametersOf (c .before .before .before .before .before .before .before .before .before .args .first))
+    (c .before .before .before .before .before .before .before .before .before .args .out .now)
+    (c .before .before .before .before .before .before .before .before .before .args .start)
+    (c .before .before .before .before .do-sequence .last .1 .1 .1 .1 .0) (c .sequenced2 .given .0 .0) (c .sequenced2 .given .0 .1 .0)
+    (c .sequenced2 .given .0 .1 .1 .0)
 arrived t c =
     let a = c .before .before .before .before .before .before .before .before .before .args in
     let l = c .before .before .before .before .before .before .loop in
     let d = c .before .before .before .before .do-sequence in
-    came (a .command .now) (a .g) (parametersOf (a .first)) (a .out .now) (a .start) (l .out) (l .i) (l .at) (parametersOf (l .ps)) (l .inv) _ _ _ _ (rw (c .sequenced2 .given .1) at (d .ensures)) (d .kept .1 .1 .1 .1 .0)
+    came (a .command .now) (a .g) (parametersOf (a .first)) (a .out .now) (a .start) (l .out) (l .i) (l .at) (parametersOf (l .ps)) (l .inv) _ _ _ _
+    (rw (c .sequenced2 .given .1) at (d .ensures)) (d .kept .1 .1 .1 .1 .0)
 
 percent-loop-holds : (t : ℕ) → percent-lts.Need-loop-holds (percent-claims t) (percent-at t) percent.Post percent-Inv-loop percent-μ-loop
 percent-loop-holds t c =
@@ -76,26 +83,34 @@ percent-enum-known-sequenced : (t : ℕ) → percent-lts.Need-enum-known-sequenc
 percent-enum-known-sequenced t c = search needs
 
 percent-same-length : (t : ℕ) → percent-lts.Need-same-length (percent-claims t) (percent-at t) percent.Post percent-Inv-loop percent-μ-loop
-percent-same-length t c = c .before .before .before .before .before .do-sequence .kept .1 .1 .1 .1 .0 ∙ c .before .before .before .before .before .before .before .loop .inv .same
+percent-same-length t c = c .before .before .before .before .before .do-sequence .kept .1 .1 .1 .1 .0 ∙
+    c .before .before .before .before .before .before .before .loop .inv .same
 
 percent-returns : (t : ℕ) → percent-lts.Need-returns (percent-claims t) (percent-at t) percent.Post percent-Inv-loop percent-μ-loop
 percent-returns t c =
     let a = c .before .before .before .before .before .before .before .before .before .before .args in
     let l = c .before .before .before .before .before .before .before .loop in
-    stopped (a .command .now) (a .g) (parametersOf (a .first)) (a .out .now) (a .start) (l .out) (l .i) (l .at) (parametersOf (l .ps)) (l .inv) _ (rw (c .before .sequenced .given .1) at (c .before .before .before .before .before .do-sequence .ensures))
+    stopped (a .command .now) (a .g) (parametersOf (a .first)) (a .out .now) (a .start) (l .out) (l .i) (l .at) (parametersOf (l .ps)) (l .inv) _
+    (rw (c .before .sequenced .given .1) at (c .before .before .before .before .before .do-sequence .ensures))
 
-percent-enum-known-sequenced-2 : (t : ℕ) → percent-lts.Need-enum-known-sequenced-2 (percent-claims t) (percent-at t) percent.Post percent-Inv-loop percent-μ-loop
+percent-enum-known-sequenced-2 : (t : ℕ) → percent-lts.Need-enum-known-sequenced-2 (percent-claims t) (percent-at t) percent.Post percent-Inv-loop
+    percent-μ-loop
 percent-enum-known-sequenced-2 t c = search needs
 
 percent-same-length-2 : (t : ℕ) → percent-lts.Need-same-length-2 (percent-claims t) (percent-at t) percent.Post percent-Inv-loop percent-μ-loop
-percent-same-length-2 t c = c .before .before .before .before .before .before .do-sequence .kept .1 .1 .1 .1 .0 ∙ c .before .before .before .before .before .before .before .before .loop .inv .same
+percent-same-length-2 t c = c .before .before .before .before .before .before .do-sequence .kept .1 .1 .1 .1 .0 ∙
+    c .before .before .before .before .before .before .before .before .loop .inv .same
 
 percent-returns-2 : (t : ℕ) → percent-lts.Need-returns-2 (percent-claims t) (percent-at t) percent.Post percent-Inv-loop percent-μ-loop
 percent-returns-2 t c =
     let a = c .before .before .before .before .before .before .before .before .before .before .before .args in
-    all-done (a .command .now) (a .g) (parametersOf (a .first)) (a .out .now) (a .start) (c .before .before .before .before .before .before .do-sequence .last .1 .1 .1 .1 .0) (c .before .before .sequenced2 .given .0 .0) (c .before .before .sequenced2 .given .0 .1 .0) (c .before .before .sequenced2 .given .0 .1 .1 .0) (arrived t (c .before .before)) (omega (arith, c .if1 .taken)) 0
+    all-done (a .command .now) (a .g) (parametersOf (a .first)) (a .out .now) (a .start)
+    (c .before .before .before .before .before .before .do-sequence .last .1 .1 .1 .1 .0) (c .before .before .sequenced2 .given .0 .0)
+    (c .before .before .sequenced2 .given .0 .1 .0) (c .before .before .sequenced2 .given .0 .1 .1 .0) (arrived t (c .before .before))
+    (omega (arith, c .if1 .taken)) 0
 
-percent-shared-slice-read-if2 : (t : ℕ) → percent-lts.Need-shared-slice-read-if2 (percent-claims t) (percent-at t) percent.Post percent-Inv-loop percent-μ-loop
+percent-shared-slice-read-if2 : (t : ℕ) → percent-lts.Need-shared-slice-read-if2 (percent-claims t) (percent-at t) percent.Post percent-Inv-loop
+    percent-μ-loop
 percent-shared-slice-read-if2 t c =
     let w = arrived t (c .before .before .before) in
     omega (arith, w .inside, c .before .if1 .left)
@@ -106,13 +121,17 @@ percent-sub-t23 t c =
     omega (arith, w .inside)
 
 percent-same-length-3 : (t : ℕ) → percent-lts.Need-same-length-3 (percent-claims t) (percent-at t) percent.Post percent-Inv-loop percent-μ-loop
-percent-same-length-3 t c = c .before .before .before .before .before .before .before .before .before .do-sequence .kept .1 .1 .1 .1 .0 ∙ c .before .before .before .before .before .before .before .before .before .before .before .loop .inv .same
+percent-same-length-3 t c = c .before .before .before .before .before .before .before .before .before .do-sequence .kept .1 .1 .1 .1 .0 ∙
+    c .before .before .before .before .before .before .before .before .before .before .before .loop .inv .same
 
 percent-returns-3 : (t : ℕ) → percent-lts.Need-returns-3 (percent-claims t) (percent-at t) percent.Post percent-Inv-loop percent-μ-loop
 percent-returns-3 t c =
     let a = c .before .before .before .before .before .before .before .before .before .before .before .before .before .before .args in
     let w = arrived t (c .before .before .before .before .before) in
-    pauses (a .command .now) (a .g) (parametersOf (a .first)) (a .out .now) (a .start) (c .before .before .before .before .before .before .before .before .before .do-sequence .last .1 .1 .1 .1 .0) (c .before .before .before .before .before .sequenced2 .given .0 .0) (c .before .before .before .before .before .sequenced2 .given .0 .1 .0) (c .before .before .before .before .before .sequenced2 .given .0 .1 .1 .0) w (omega (arith, w .inside, c .before .before .before .if1 .left))
+    pauses (a .command .now) (a .g) (parametersOf (a .first)) (a .out .now) (a .start)
+    (c .before .before .before .before .before .before .before .before .before .do-sequence .last .1 .1 .1 .1 .0)
+    (c .before .before .before .before .before .sequenced2 .given .0 .0) (c .before .before .before .before .before .sequenced2 .given .0 .1 .0)
+    (c .before .before .before .before .before .sequenced2 .given .0 .1 .1 .0) w (omega (arith, w .inside, c .before .before .before .if1 .left))
 
 percent-sub-plain : (t : ℕ) → percent-lts.Need-sub-plain (percent-claims t) (percent-at t) percent.Post percent-Inv-loop percent-μ-loop
 percent-sub-plain t c =
@@ -140,13 +159,21 @@ percent-plain-requires t c κs =
     (omega (arith, w .begun, w .inside), omega (arith, w .below, w .inside))
 
 percent-same-length-4 : (t : ℕ) → percent-lts.Need-same-length-4 (percent-claims t) (percent-at t) percent.Post percent-Inv-loop percent-μ-loop
-percent-same-length-4 t c = c .before .before .plain .kept .1 .1 .1 .0 ∙ c .before .before .before .before .before .before .before .before .before .before .before .before .before .before .do-sequence .kept .1 .1 .1 .1 .0 ∙ c .before .before .before .before .before .before .before .before .before .before .before .before .before .before .before .before .loop .inv .same
+percent-same-length-4 t c = c .before .before .plain .kept .1 .1 .1 .0 ∙
+    c .before .before .before .before .before .before .before .before .before .before .before .before .before .before .do-sequence .kept .1 .1 .1 .1 .0 ∙
+    c .before .before .before .before .before .before .before .before .before .before .before .before .before .before .before .before .loop .inv .same
 
 percent-returns-4 : (t : ℕ) → percent-lts.Need-returns-4 (percent-claims t) (percent-at t) percent.Post percent-Inv-loop percent-μ-loop
 percent-returns-4 t c =
-    let a = c .before .before .before .before .before .before .before .before .before .before .before .before .before .before .before .before .before .before .before .args in
+    let back12 = c .before .before .before .before .before .before .before .before .before .before .before .before in
+    let a = back12 .before .before .before .before .before .before .before .args in
     let w = arrived t (c .before .before .before .before .before .before .before .before .before .before) in
-    goes-on (a .command .now) (a .g) (parametersOf (a .first)) (a .out .now) (a .start) (c .before .before .before .before .before .before .before .before .before .before .before .before .before .before .do-sequence .last .1 .1 .1 .1 .0) (c .before .before .before .before .before .before .before .before .before .before .sequenced2 .given .0 .0) (c .before .before .before .before .before .before .before .before .before .before .sequenced2 .given .0 .1 .0) (c .before .before .before .before .before .before .before .before .before .before .sequenced2 .given .0 .1 .1 .0) w (w .inside) (c .before .before .plain .result) _ (c .before .before .plain .ensures)
+    goes-on (a .command .now) (a .g) (parametersOf (a .first)) (a .out .now) (a .start)
+    (c .before .before .before .before .before .before .before .before .before .before .before .before .before .before .do-sequence .last .1 .1 .1 .1 .0)
+    (c .before .before .before .before .before .before .before .before .before .before .sequenced2 .given .0 .0)
+    (c .before .before .before .before .before .before .before .before .before .before .sequenced2 .given .0 .1 .0)
+    (c .before .before .before .before .before .before .before .before .before .before .sequenced2 .given .0 .1 .1 .0) w (w .inside)
+    (c .before .before .plain .result) _ (c .before .before .plain .ensures)
 
 percent-add-i : (t : ℕ) → percent-lts.Need-add-i (percent-claims t) (percent-at t) percent.Post percent-Inv-loop percent-μ-loop
 percent-add-i t c =
@@ -156,14 +183,18 @@ percent-add-i t c =
 percent-loop-less : (t : ℕ) → percent-lts.Need-loop-less (percent-claims t) (percent-at t) percent.Post percent-Inv-loop percent-μ-loop
 percent-loop-less t c =
     let w = arrived t (c .before .before .before .before) in
-    let d = rw (c .before .before .before .before .sequenced2 .given .1) at (c .before .before .before .before .before .before .before .before .do-sequence .ensures) in
+    let d = rw (c .before .before .before .before .sequenced2 .given .1) at
+    (c .before .before .before .before .before .before .before .before .do-sequence .ensures) in
     omega (arith, w .inside, c .before .before .if1 .left, d .4)
 
 percent-loop-again : (t : ℕ) → percent-lts.Need-loop-again (percent-claims t) (percent-at t) percent.Post percent-Inv-loop percent-μ-loop
 percent-loop-again t c =
     let a = c .before .before .before .before .before .before .before .before .before .before .before .before .before .args in
     let w = arrived t (c .before .before .before .before) in
-    next-sequence (a .command .now) (a .g) (parametersOf (a .first)) (a .out .now) (a .start) (c .before .before .before .before .before .before .before .before .do-sequence .last .1 .1 .1 .1 .0) (c .before .before .before .before .sequenced2 .given .0 .0) (c .before .before .before .before .sequenced2 .given .0 .1 .0) (c .before .before .before .before .sequenced2 .given .0 .1 .1 .0) w (omega (arith, w .inside, c .before .before .if1 .left)) (c .if2 .left)
+    next-sequence (a .command .now) (a .g) (parametersOf (a .first)) (a .out .now) (a .start)
+    (c .before .before .before .before .before .before .before .before .do-sequence .last .1 .1 .1 .1 .0)
+    (c .before .before .before .before .sequenced2 .given .0 .0) (c .before .before .before .before .sequenced2 .given .0 .1 .0)
+    (c .before .before .before .before .sequenced2 .given .0 .1 .1 .0) w (omega (arith, w .inside, c .before .before .if1 .left)) (c .if2 .left)
 
 abbrev plain-Inv-loop : plain-lts.InvT-loop
 plain-Inv-loop command g ps out₀ at depth i₀ out i = Run command g (parametersOf ps) out₀ at out i
@@ -254,7 +285,9 @@ plain-returns : (t : ℕ) → plain-lts.Need-returns (
 plain-returns t c =
     let a = c .before .before .before .before .before .before .before .before .before .before .before .args in
     let l = c .before .before .before .before .before .before .before .before .loop in
-    at-next-sign (a .command .now) (a .g) (parametersOf (a .ps)) (a .out .now) (a .at) (l .out) (l .i) (l .inv) (c .before .before .before .before .before .before .before .loop-test .taken) (c .before .before .before .before .before .if1 .taken) (c .before .before .percent .result) _ (c .before .before .percent .ensures)
+    at-next-sign (a .command .now) (a .g) (parametersOf (a .ps)) (a .out .now) (a .at) (l .out) (l .i) (l .inv)
+    (c .before .before .before .before .before .before .before .loop-test .taken) (c .before .before .before .before .before .if1 .taken)
+    (c .before .before .percent .result) _ (c .before .before .percent .ensures)
 
 plain-add-put-byte : (t : ℕ) → plain-lts.Need-add-put-byte (
   percent-below t,
@@ -297,7 +330,9 @@ plain-loop-again : (t : ℕ) → plain-lts.Need-loop-again (
 plain-loop-again t c =
     let a = c .before .before .before .before .before .before .before .before .before .before .args in
     let l = c .before .before .before .before .before .before .before .loop in
-    one-more (a .command .now) (a .g) (parametersOf (a .ps)) (a .out .now) (a .at) (l .out) (l .i) (l .inv) (c .before .before .before .before .before .before .loop-test .taken) (c .before .before .before .before .if1 .left) (c .before .before .put-byte .last .0) (c .before .before .put-byte .ensures)
+    one-more (a .command .now) (a .g) (parametersOf (a .ps)) (a .out .now) (a .at) (l .out) (l .i) (l .inv)
+    (c .before .before .before .before .before .before .loop-test .taken) (c .before .before .before .before .if1 .left)
+    (c .before .before .put-byte .last .0) (c .before .before .put-byte .ensures)
 
 plain-add-t24 : (t : ℕ) → plain-lts.Need-add-t24 (
   percent-below t,

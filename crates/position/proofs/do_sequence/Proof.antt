@@ -31,7 +31,10 @@ enum-known-performed c = search needs
 returns-2 : tie.Need-returns-2
 returns-2 c =
     let a = c .before .before .before .before .before .before .before .before .before .before .args in
-    sequence-stopped (a .command .now) (a .from) (a .g) (parametersOf (a .ps)) _ _ (rw (c .before .before .before .before .before .reading .given .1) at (c .before .before .before .before .before .before .before .read-sequence .ensures)) _ (sym (ap effectOf (c .before .performed .given .1)) ∙ c .before .before .before .perform .ensures)
+    sequence-stopped (a .command .now) (a .from) (a .g) (parametersOf (a .ps)) _ _
+    (rw (c .before .before .before .before .before .reading .given .1) at
+    (c .before .before .before .before .before .before .before .read-sequence .ensures)) _
+    (sym (ap effectOf (c .before .performed .given .1)) ∙ c .before .before .before .perform .ensures)
 
 enum-known-performed-2 : tie.Need-enum-known-performed-2
 enum-known-performed-2 c = search needs
@@ -40,8 +43,10 @@ write-output-requires : tie.Need-write-output-requires
 write-output-requires c κs =
     let a = c .before .before .before .before .before .before .before .before .before .before .before .args in
     let p = c .before .before .before .before .before .before .before .before .before .before .before .pre in
-    let read = (rw (c .before .before .before .before .before .before .reading .given .1) at (c .before .before .before .before .before .before .before .before .read-sequence .ensures)) in
-    let fits = sequence-fits (a .command .now) (a .from) (a .g) (parametersOf (a .ps)) _ _ read _ _ (sym (ap effectOf (c .before .before .performed2 .given .1)) ∙ c .before .before .before .before .perform .ensures) in
+    let read = (rw (c .before .before .before .before .before .before .reading .given .1) at
+    (c .before .before .before .before .before .before .before .before .read-sequence .ensures)) in
+    let fits = sequence-fits (a .command .now) (a .from) (a .g) (parametersOf (a .ps)) _ _ read _ _
+    (sym (ap effectOf (c .before .before .performed2 .given .1)) ∙ c .before .before .before .before .perform .ensures) in
     omega (arith, fits, read .0, read .1, p .0, p .1)
 
 same-length : tie.Need-same-length
@@ -51,7 +56,11 @@ returns-3 : tie.Need-returns-3
 returns-3 c =
     let a = c .before .before .before .before .before .before .before .before .before .before .before .before .before .before .args in
     let x = c .before .before .write-output .ensures in
-    sequence-done (a .command .now) (a .from) (a .g) (parametersOf (a .ps)) _ _ (rw (c .before .before .before .before .before .before .before .before .before .reading .given .1) at (c .before .before .before .before .before .before .before .before .before .before .before .read-sequence .ensures)) _ _ (sym (ap effectOf (c .before .before .before .before .before .performed2 .given .1)) ∙ c .before .before .before .before .before .before .before .perform .ensures) (a .out .now) _ (a .at) _ (x .0) (x .1)
+    sequence-done (a .command .now) (a .from) (a .g) (parametersOf (a .ps)) _ _
+    (rw (c .before .before .before .before .before .before .before .before .before .reading .given .1) at
+    (c .before .before .before .before .before .before .before .before .before .before .before .read-sequence .ensures)) _ _
+    (sym (ap effectOf (c .before .before .before .before .before .performed2 .given .1)) ∙
+    c .before .before .before .before .before .before .before .perform .ensures) (a .out .now) _ (a .at) _ (x .0) (x .1)
 
 pub do-sequence-spec : {M : Type 1} → statement M
 do-sequence-spec =

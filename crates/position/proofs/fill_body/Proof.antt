@@ -33,33 +33,41 @@ plain-requires : tie.Need-plain-requires Inv-loop μ-loop
 plain-requires c κs =
     let a = c .before .before .before .before .before .args in
     let l = c .before .before .loop in
-    omega (arith, handed-length (a .command .now) (a .g) (parametersOf (a .first)) (a .out .now) (l .out) (l .left) (l .at) (parametersOf (l .ps)) (l .inv), l .inv .below)
+    omega (
+      arith,
+      handed-length (a .command .now) (a .g) (parametersOf (a .first)) (a .out .now) (l .out) (l .left) (l .at) (parametersOf (l .ps)) (l .inv),
+      l .inv .below,
+    )
 
 enum-known-step : tie.Need-enum-known-step Inv-loop μ-loop
 enum-known-step c = search needs
 
 same-length : tie.Need-same-length Inv-loop μ-loop
-same-length c = c .before .before .before .before .before .plain .kept .1 .1 .1 .0 ∙ c .before .before .before .before .before .before .before .before .loop .inv .same
+same-length c = c .before .before .before .before .before .plain .kept .1 .1 .1 .0 ∙
+    c .before .before .before .before .before .before .before .before .loop .inv .same
 
 returns : tie.Need-returns Inv-loop μ-loop
 returns c =
     let a = c .before .before .before .before .before .before .before .before .before .before .before .args in
     let l = c .before .before .before .before .before .before .before .before .loop in
     let f = c .before .before .before .before .before .plain in
-    fill-done (a .command .now) (a .g) (parametersOf (a .first)) (a .out .now) (l .out) (l .left) (l .at) (parametersOf (l .ps)) (l .inv) _ (f .result) _ (f .ensures) _ _ (c .before .step .given .1)
+    fill-done (a .command .now) (a .g) (parametersOf (a .first)) (a .out .now) (l .out) (l .left) (l .at) (parametersOf (l .ps)) (l .inv) _ (f .result) _
+    (f .ensures) _ _ (c .before .step .given .1)
 
 enum-known-step-2 : tie.Need-enum-known-step-2 Inv-loop μ-loop
 enum-known-step-2 c = search needs
 
 same-length-2 : tie.Need-same-length-2 Inv-loop μ-loop
-same-length-2 c = c .before .before .before .before .before .plain .kept .1 .1 .1 .0 ∙ c .before .before .before .before .before .before .before .before .loop .inv .same
+same-length-2 c = c .before .before .before .before .before .plain .kept .1 .1 .1 .0 ∙
+    c .before .before .before .before .before .before .before .before .loop .inv .same
 
 returns-2 : tie.Need-returns-2 Inv-loop μ-loop
 returns-2 c =
     let a = c .before .before .before .before .before .before .before .before .before .before .before .args in
     let l = c .before .before .before .before .before .before .before .before .loop in
     let f = c .before .before .before .before .before .plain in
-    fill-failed (a .command .now) (a .g) (parametersOf (a .first)) (a .out .now) (l .out) (l .left) (l .at) (parametersOf (l .ps)) (l .inv) _ (f .result) _ (f .ensures) _ (c .before .step2 .given .1)
+    fill-failed (a .command .now) (a .g) (parametersOf (a .first)) (a .out .now) (l .out) (l .left) (l .at) (parametersOf (l .ps)) (l .inv) _ (f .result) _
+    (f .ensures) _ (c .before .step2 .given .1)
 
 enum-known-step-3 : tie.Need-enum-known-step-3 Inv-loop μ-loop
 enum-known-step-3 c = search needs
@@ -69,7 +77,8 @@ loop-less c =
     let a = c .before .before .before .before .before .before .before .before .before .before .before .args in
     let l = c .before .before .before .before .before .before .before .before .loop in
     let f = c .before .before .before .before .before .plain in
-    fill-falls (a .command .now) (a .g) (parametersOf (a .first)) (a .out .now) (l .out) (l .left) (l .at) (parametersOf (l .ps)) (l .inv) _ (f .result) _ (f .ensures) _ _ _ (c .before .step3 .given .1)
+    fill-falls (a .command .now) (a .g) (parametersOf (a .first)) (a .out .now) (l .out) (l .left) (l .at) (parametersOf (l .ps)) (l .inv) _ (f .result) _
+    (f .ensures) _ _ _ (c .before .step3 .given .1)
 
 loop-again : tie.Need-loop-again Inv-loop μ-loop
 loop-again c =
@@ -77,7 +86,8 @@ loop-again c =
     let l = c .before .before .before .before .before .before .before .before .loop in
     let f = c .before .before .before .before .before .plain in
     let k = handed-length (a .command .now) (a .g) (parametersOf (a .first)) (a .out .now) (l .out) (l .left) (l .at) (parametersOf (l .ps)) (l .inv) in
-    fill-again (a .command .now) (a .g) (parametersOf (a .first)) (a .out .now) (l .out) (l .left) (l .at) (parametersOf (l .ps)) (l .inv) _ (f .result) _ (f .ensures) _ _ _ (c .before .step3 .given .1) (f .kept .1 .1 .1 .0) (omega arith)
+    fill-again (a .command .now) (a .g) (parametersOf (a .first)) (a .out .now) (l .out) (l .left) (l .at) (parametersOf (l .ps)) (l .inv) _ (f .result) _
+    (f .ensures) _ _ _ (c .before .step3 .given .1) (f .kept .1 .1 .1 .0) (omega arith)
 
 pub fill-body-spec : {M : Type 1} → statement M
 fill-body-spec =

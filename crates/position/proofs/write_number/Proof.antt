@@ -27,7 +27,8 @@ put-byte-requires c κs = search needs
 add-result : tie.Need-add-result
 add-result c =
     let a = c .before .before .before .before .before .before .before .args in
-    let p = rw (one-digit (a .least) (a .n) (c .before .before .before .before .before .if1 .left) (c .before .before .before .before .if2 .taken)) at (c .before .before .before .before .before .before .before .pre) in
+    let p = rw (one-digit (a .least) (a .n) (c .before .before .before .before .before .if1 .left) (c .before .before .before .before .if2 .taken)) at
+    (c .before .before .before .before .before .before .before .pre) in
     omega arith
 
 same-length-2 : tie.Need-same-length-2
@@ -36,7 +37,8 @@ same-length-2 c = search needs
 returns-2 : tie.Need-returns-2
 returns-2 c =
     let a = c .before .before .before .before .before .before .before .args in
-    rw (one-digit (a .least) (a .n) (c .before .before .before .before .before .if1 .left) (c .before .before .before .before .if2 .taken)) (refl, c .before .before .put-byte .ensures)
+    rw (one-digit (a .least) (a .n) (c .before .before .before .before .before .if1 .left) (c .before .before .before .before .if2 .taken))
+    (refl, c .before .before .put-byte .ensures)
 
 cast-put-byte-2 : tie.Need-cast-put-byte-2
 cast-put-byte-2 c = search needs
@@ -50,7 +52,9 @@ put-byte-requires-2 c κs = search needs
 add-put-byte-3 : tie.Need-add-put-byte-3
 add-put-byte-3 c =
     let a = c .before .before .before .before .before .before .before .before .before .args in
-    let p = rw (two-digits (a .least) (a .n) (c .before .before .before .before .before .before .before .if1 .left) (c .before .before .before .before .before .before .if2 .left) (c .before .before .before .before .before .if3 .taken)) at (c .before .before .before .before .before .before .before .before .before .pre) in
+    let p = rw (two-digits (a .least) (a .n) (c .before .before .before .before .before .before .before .if1 .left)
+    (c .before .before .before .before .before .before .if2 .left) (c .before .before .before .before .before .if3 .taken)) at
+    (c .before .before .before .before .before .before .before .before .before .pre) in
     omega arith
 
 cast-put-byte-3 : tie.Need-cast-put-byte-3
@@ -65,7 +69,10 @@ put-byte-requires-3 c κs = search needs
 add-result-2 : tie.Need-add-result-2
 add-result-2 c =
     let a = c .before .before .before .before .before .before .before .before .before .before .before .before .args in
-    let p = rw (two-digits (a .least) (a .n) (c .before .before .before .before .before .before .before .before .before .before .if1 .left) (c .before .before .before .before .before .before .before .before .before .if2 .left) (c .before .before .before .before .before .before .before .before .if3 .taken)) at (c .before .before .before .before .before .before .before .before .before .before .before .before .pre) in
+    let p = rw (two-digits (a .least) (a .n) (c .before .before .before .before .before .before .before .before .before .before .if1 .left)
+    (c .before .before .before .before .before .before .before .before .before .if2 .left)
+    (c .before .before .before .before .before .before .before .before .if3 .taken)) at
+    (c .before .before .before .before .before .before .before .before .before .before .before .before .pre) in
     omega arith
 
 same-length-3 : tie.Need-same-length-3
@@ -74,7 +81,13 @@ same-length-3 c = search needs
 returns-3 : tie.Need-returns-3
 returns-3 c =
     let a = c .before .before .before .before .before .before .before .before .before .before .before .before .args in
-    rw (two-digits (a .least) (a .n) (c .before .before .before .before .before .before .before .before .before .before .if1 .left) (c .before .before .before .before .before .before .before .before .before .if2 .left) (c .before .before .before .before .before .before .before .before .if3 .taken)) (refl, two-stored (a .out .now) _ _ (a .at) _ _ (c .before .before .before .before .before .before .put-byte2 .ensures) (c .before .before .put-byte3 .ensures))
+    rw (two-digits (a .least) (a .n) (c .before .before .before .before .before .before .before .before .before .before .if1 .left)
+    (c .before .before .before .before .before .before .before .before .before .if2 .left)
+    (c .before .before .before .before .before .before .before .before .if3 .taken)) (
+      refl,
+      two-stored (a .out .now) _ _ (a .at) _ _ (c .before .before .before .before .before .before .put-byte2 .ensures)
+          (c .before .before .put-byte3 .ensures),
+    )
 
 write-wide-requires-2 : tie.Need-write-wide-requires-2
 write-wide-requires-2 c κs = search needs

@@ -20,11 +20,16 @@ enum-known-prefix c = search needs
 
 pads-for-requires : tie.Need-pads-for-requires
 pads-for-requires c κs =
-    let range = c .before .before .before .before .before .before .pre (not-false _ (c .before .before .before .before .if1 .left)) in
-    (delay-small (c .before .before .before .before .before .before .args .command .now) _ _ _ (rw (c .before .prefix .given .1) at (c .before .before .before .read-prefix .ensures)), range .0, range .1)
+    let range = c .before .before .before .before .before .before .pre (not-false _ (c .before .before .before .before .if1 .left)) in (
+      delay-small (c .before .before .before .before .before .before .args .command .now) _ _ _
+          (rw (c .before .prefix .given .1) at (c .before .before .before .read-prefix .ensures)),
+      range .0,
+      range .1,
+    )
 
 returns-2 : tie.Need-returns-2
-returns-2 c = rw (not-false (c .before .before .before .before .before .args .in-range) (c .before .before .before .if1 .left)) (refl, rw (c .enum-told .given .1) at (c .before .before .read-prefix .ensures))
+returns-2 c = rw (not-false (c .before .before .before .before .before .args .in-range) (c .before .before .before .if1 .left))
+    (refl, rw (c .enum-told .given .1) at (c .before .before .read-prefix .ensures))
 
 returns-3 : tie.Need-returns-3
 returns-3 c =

@@ -48,7 +48,11 @@ returns-2 : tie.Need-returns-2
 unfolding sendOutcome
 returns-2 c =
     let a = c .before .before .before .before .before .before .before .before .before .before .before .before .args in
-    let j = rw (c .before .before .before .before .before .before .before .before .before .good-speed .ensures, c .before .before .before .before .before .before .judged2 .given .1) at (c .before .before .before .before .before .before .before .before .judge .ensures) in
+    let j = rw (
+      c .before .before .before .before .before .before .before .before .before .good-speed .ensures,
+      c .before .before .before .before .before .before .judged2 .given .1,
+    ) at
+    (c .before .before .before .before .before .before .before .before .judge .ensures) in
     rw (send-body (a .command .now) (a .lines) (a .speed) (a .pad) _ _ j) (c .before .before .send-copied .ensures)
 
 pub send-spec : {M : Type 1} → statement M

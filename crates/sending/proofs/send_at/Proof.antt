@@ -1,7 +1,9 @@
 -- `sending::send_at` meets its contract: a refusal by the inputs or the prefix, or the body filled in, and its pads. Assumes nothing.
 use mathlib.Core.Path.{sym, _∙_}
 use Rattle.spec.specs.Sending.{goodSpeed, goodPlace, sendAtOutcome}
+use Rattle.spec.specs.Choice.{both}
 use Rattle.spec.proofs.Tests.{both-true}
+use lib.Dec.{leb}
 use Rattle.sending.proofs.Inputs.{speed-in-range, place-in-range, inputs-held, filled-held}
 use Rattle.sending.proofs.Outgoing.{send-at-refused, send-at-body}
 use Rattle.sending.proofs.Delivery.{stopped}
@@ -21,8 +23,8 @@ good-inputs-requires c κs = search needs
 judge-requires : tie.Need-judge-requires
 judge-requires c κs =
     let a = c .before .before .before .before .before .before .before .args in
-    let told = inputs-held (a .row) (a .column) _ _ (c .before .before .held-for .ensures) (c .before .held-for2 .ensures) (a .lines) (a .speed) _ (c .good-inputs .ensures) in
-    λ e. speed-in-range _ _ (both-true (goodPlace (a .row) (a .column)) (goodSpeed (a .lines) (a .speed)) (sym told ∙ e) .1)
+    let place = both (leb (c .before .before .held-for .result) 42767) (leb (c .before .held-for2 .result) 42767) in
+    λ e. speed-in-range (a .lines) (a .speed) (both-true place (goodSpeed (a .lines) (a .speed)) (sym (c .good-inputs .ensures) ∙ e) .1)
 
 enum-known-judged : tie.Need-enum-known-judged
 enum-known-judged c = search needs
@@ -31,7 +33,8 @@ returns : tie.Need-returns
 unfolding sendAtOutcome
 returns c =
     let a = c .before .before .before .before .before .before .before .before .before .before .before .args in
-    let told = inputs-held (a .row) (a .column) _ _ (c .before .before .before .before .before .before .held-for .ensures) (c .before .before .before .before .before .held-for2 .ensures) (a .lines) (a .speed) _ (c .before .before .before .before .good-inputs .ensures) in
+    let told = inputs-held (a .row) (a .column) _ _ (c .before .before .before .before .before .before .held-for .ensures)
+    (c .before .before .before .before .before .held-for2 .ensures) (a .lines) (a .speed) _ (c .before .before .before .before .good-inputs .ensures) in
     let j = rw (told, c .before .judged .given .1) at (c .before .before .before .judge .ensures) in
     stopped _ _ (a .out .now) (send-at-refused (a .command .now) (a .lines) (a .speed) (a .pad) (a .row) (a .column) (a .back .now) (a .up .now) _ j)
 
@@ -59,11 +62,21 @@ returns-2 : tie.Need-returns-2
 unfolding sendAtOutcome
 returns-2 c =
     let a = c .before .before .before .before .before .before .before .before .before .before .before .before .before .before .before .before .args in
-    let told = inputs-held (a .row) (a .column) _ _ (c .before .before .before .before .before .before .before .before .before .before .before .held-for .ensures) (c .before .before .before .before .before .before .before .before .before .before .held-for2 .ensures) (a .lines) (a .speed) _ (c .before .before .before .before .before .before .before .before .before .good-inputs .ensures) in
-    let j = rw (told, c .before .before .before .before .before .before .judged2 .given .1) at (c .before .before .before .before .before .before .before .before .judge .ensures) in
+    let told = inputs-held (a .row) (a .column) _ _
+    (c .before .before .before .before .before .before .before .before .before .before .before .held-for .ensures)
+    (c .before .before .before .before .before .before .before .before .before .before .held-for2 .ensures) (a .lines) (a .speed) _
+    (c .before .before .before .before .before .before .before .before .before .good-inputs .ensures) in
+    let j = rw (told, c .before .before .before .before .before .before .judged2 .given .1) at
+    (c .before .before .before .before .before .before .before .before .judge .ensures) in
     let place = place-in-range (a .row) (a .column) (both-true (goodPlace (a .row) (a .column)) (goodSpeed (a .lines) (a .speed)) (j .0) .0) in
-    let filled = filled-held (a .row) (a .column) _ _ (c .before .before .before .before .before .before .before .before .before .before .before .held-for .ensures) (c .before .before .before .before .before .before .before .before .before .before .held-for2 .ensures) in
-    rw (send-at-body (a .command .now) (a .lines) (a .speed) (a .pad) (a .row) (a .column) (a .back .now) (a .up .now) _ _ j, ← filled _ (a .back .now) (a .up .now) (place .0) (place .1)) (c .before .before .send-filled .ensures)
+    let filled = filled-held (a .row) (a .column) _ _
+    (c .before .before .before .before .before .before .before .before .before .before .before .held-for .ensures)
+    (c .before .before .before .before .before .before .before .before .before .before .held-for2 .ensures) in
+    rw (
+      send-at-body (a .command .now) (a .lines) (a .speed) (a .pad) (a .row) (a .column) (a .back .now) (a .up .now) _ _ j,
+      ← filled _ (a .back .now)
+          (a .up .now) (place .0) (place .1),
+    ) (c .before .before .send-filled .ensures)
 
 pub send-at-spec : {M : Type 1} → statement M
 send-at-spec =

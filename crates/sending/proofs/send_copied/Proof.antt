@@ -47,7 +47,8 @@ returns-3 c =
     let f = c .before .before .before .before .before .before .copy-front in
     let p = c .before .before .write-pads in
     fits (a .bytes .now) (a .out .now) _ (a .pads) (a .pad) refl (omega arith) _
-    (after-pads (a .bytes .now) (a .out .now) (f .last .1 .0) (p .last .0) _ (a .pads) (a .pad) refl (omega arith) (f .ensures ∙ set-front (a .bytes .now) (a .out .now) _ refl (omega arith)) (p .ensures))
+    (after-pads (a .bytes .now) (a .out .now) (f .last .1 .0) (p .last .0) _ (a .pads) (a .pad) refl (omega arith)
+    (f .ensures ∙ set-front (a .bytes .now) (a .out .now) _ refl (omega arith)) (p .ensures))
 
 pub send-copied-spec : {M : Type 1} → statement M
 send-copied-spec =

@@ -27,7 +27,8 @@ enum-known-measured c = search needs
 returns : tie.Need-returns
 returns c =
     let a = c .before .before .before .before .before .before .before .before .before .before .before .args in
-    let f = rw (c .before .before .before .before .before .before .both-unused .ensures, c .before .measured .given .1) at (c .before .before .before .before .fill-in .ensures) in
+    let f = rw (c .before .before .before .before .before .before .both-unused .ensures, c .before .measured .given .1) at
+    (c .before .before .before .before .fill-in .ensures) in
     stopped _ _ (a .out .now) (sends-fault _ (a .pads) (a .pad) _ f)
 
 enum-told : tie.Need-enum-told
@@ -60,8 +61,13 @@ same-length c = search needs
 returns-3 : tie.Need-returns-3
 returns-3 c =
     let a = c .before .before .before .before .before .before .before .before .before .before .before .before .before .before .before .before .before .args in
-    let f = rw (c .before .before .before .before .before .before .before .before .before .before .before .before .both-unused .ensures, c .before .before .before .before .before .before .before .measured2 .given .1) at (c .before .before .before .before .before .before .before .before .before .before .fill-in .ensures) in
-    let fits : length (f .0) ≤ length (replicate {A = ℕ} 128 0) = rw (length-replicate {A = ℕ} 128 0) (omega (arith, f .2, c .before .before .before .before .before .if1 .taken)) in
+    let f = rw (
+      c .before .before .before .before .before .before .before .before .before .before .before .before .both-unused .ensures,
+      c .before .before .before .before .before .before .before .measured2 .given .1,
+    ) at
+    (c .before .before .before .before .before .before .before .before .before .before .fill-in .ensures) in
+    let fits : length (f .0) ≤ length (replicate {A = ℕ} 128 0) = rw (length-replicate {A = ℕ} 128 0)
+    (omega (arith, f .2, c .before .before .before .before .before .if1 .taken)) in
     let copied = rw (f .4, stored-taken (replicate {A = ℕ} 128 0) (f .0) fits _ (f .2)) at (c .before .before .send-copied .ensures) in
     rw (sends-body _ (a .pads) (a .pad) (f .0) (f .1)) copied
 
@@ -71,7 +77,8 @@ sub-if2 c = (rw (c .before .before .measured2 .given .1) at (c .before .before .
 returns-4 : tie.Need-returns-4
 returns-4 c =
     let a = c .before .before .before .before .before .before .before .before .before .before .before .before .before .args in
-    let f = rw (c .before .before .before .before .before .before .before .before .both-unused .ensures, c .before .before .before .measured2 .given .1) at (c .before .before .before .before .before .before .fill-in .ensures) in
+    let f = rw (c .before .before .before .before .before .before .before .before .both-unused .ensures, c .before .before .before .measured2 .given .1) at
+    (c .before .before .before .before .before .before .fill-in .ensures) in
     rw (sends-body _ (a .pads) (a .pad) (f .0) (f .1)) (too-long (f .0) (a .out .now) _ (a .pads) (a .pad) (sym (f .2)) (omega (arith, f .3)))
 
 fill-in-requires-2 : tie.Need-fill-in-requires-2
@@ -80,14 +87,18 @@ fill-in-requires-2 c κs = search needs
 sub-write-pads : tie.Need-sub-write-pads
 sub-write-pads c =
     let a = c .before .before .before .before .before .before .before .before .before .before .before .before .before .before .before .before .before .args in
-    let inside : c .before .before .before .before .before .before .before .measured2 .given .0 .0 ≤ length (a .out .now) = (rw (c .before .before .before .before .before .before .before .measured2 .given .1) at (c .before .before .before .before .before .before .before .before .before .before .fill-in .ensures)) .3 in
+    let inside : c .before .before .before .before .before .before .before .measured2 .given .0 .0 ≤ length (a .out .now) =
+    (rw (c .before .before .before .before .before .before .before .measured2 .given .1) at
+    (c .before .before .before .before .before .before .before .before .before .before .fill-in .ensures)) .3 in
     let same : length (c .before .before .fill-in2 .last .1 .1 .1 .1 .1 .0) ≡ length (a .out .now) = c .before .before .fill-in2 .kept .1 .1 .1 .1 .1 .0 in
     rw same inside
 
 part-write-pads-start : tie.Need-part-write-pads-start
 part-write-pads-start c =
     let a = c .before .before .before .before .before .before .before .before .before .before .before .before .before .before .before .before .before .args in
-    let inside : c .before .before .before .before .before .before .before .measured2 .given .0 .0 ≤ length (a .out .now) = (rw (c .before .before .before .before .before .before .before .measured2 .given .1) at (c .before .before .before .before .before .before .before .before .before .before .fill-in .ensures)) .3 in
+    let inside : c .before .before .before .before .before .before .before .measured2 .given .0 .0 ≤ length (a .out .now) =
+    (rw (c .before .before .before .before .before .before .before .measured2 .given .1) at
+    (c .before .before .before .before .before .before .before .before .before .before .fill-in .ensures)) .3 in
     let same : length (c .before .before .fill-in2 .last .1 .1 .1 .1 .1 .0) ≡ length (a .out .now) = c .before .before .fill-in2 .kept .1 .1 .1 .1 .1 .0 in
     search needs
 
@@ -97,12 +108,17 @@ part-write-pads-end c = search needs
 write-pads-requires : tie.Need-write-pads-requires
 write-pads-requires c κs = search needs
 
-add-t24 : tie.Need-add-t24
-add-t24 c =
-    let a = c .before .before .before .before .before .before .before .before .before .before .before .before .before .before .before .before .before .before .before .before .before .args in
-    let inside : c .before .before .before .before .before .before .before .before .before .before .before .measured2 .given .0 .0 ≤ length (a .out .now) = (rw (c .before .before .before .before .before .before .before .before .before .before .before .measured2 .given .1) at (c .before .before .before .before .before .before .before .before .before .before .before .before .before .before .fill-in .ensures)) .3 in
-    let room : a .pads ≤ length (a .out .now) - c .before .before .before .before .before .before .before .before .before .before .before .measured2 .given .0 .0 = c .before .before .before .before .before .before .before .before .if2 .left in
-    let good = c .before .before .before .before .before .before .before .before .before .before .before .before .before .before .before .before .before .before .before .before .before .good in
+add-t23 : tie.Need-add-t23
+add-t23 c =
+    let back12 = c .before .before .before .before .before .before .before .before .before .before .before .before in
+    let a = back12 .before .before .before .before .before .before .before .before .before .args in
+    let inside : c .before .before .before .before .before .before .before .before .before .before .before .measured2 .given .0 .0 ≤ length (a .out .now) =
+    (rw (c .before .before .before .before .before .before .before .before .before .before .before .measured2 .given .1) at
+    (c .before .before .before .before .before .before .before .before .before .before .before .before .before .before .fill-in .ensures)) .3 in
+    let room : a .pads ≤ length (a .out .now) -
+    c .before .before .before .before .before .before .before .before .before .before .before .measured2 .given .0 .0 =
+    c .before .before .before .before .before .before .before .before .if2 .left in
+    let good = back12 .before .before .before .before .before .before .before .before .before .good in
     omega arith
 
 same-length-2 : tie.Need-same-length-2
@@ -110,14 +126,19 @@ same-length-2 c = search needs
 
 returns-5 : tie.Need-returns-5
 returns-5 c =
-    let a = c .before .before .before .before .before .before .before .before .before .before .before .before .before .before .before .before .before .before .before .before .before .args in
-    let f = rw (c .before .before .before .before .before .before .before .before .before .before .before .before .before .before .before .before .both-unused .ensures, c .before .before .before .before .before .before .before .before .before .before .before .measured2 .given .1) at (c .before .before .before .before .before .before .before .before .before .before .before .before .before .before .fill-in .ensures) in
-    let inside : c .before .before .before .before .before .before .before .before .before .before .before .measured2 .given .0 .0 ≤ length (a .out .now) = f .3 in
-    let again = rw (c .before .before .before .before .before .before .before .before .before .before .before .before .before .before .before .before .both-unused .ensures) at (c .before .before .before .before .before .before .fill-in2 .ensures) in
+    let back12 = c .before .before .before .before .before .before .before .before .before .before .before .before in
+    let a = back12 .before .before .before .before .before .before .before .before .before .args in
+    let back11 = c .before .before .before .before .before .before .before .before .before .before .before in
+    let f = rw (back11 .before .before .before .before .before .both-unused .ensures, back11 .measured2 .given .1) at
+    (back11 .before .before .before .fill-in .ensures) in
+    let inside : c .before .before .before .before .before .before .before .before .before .before .before .measured2 .given .0 .0 ≤ length (a .out .now) =
+    f .3 in
+    let again = rw (back12 .before .before .before .before .both-unused .ensures) at (c .before .before .before .before .before .before .fill-in2 .ensures) in
     let first = written _ (f .0) _ (a .out .now) (c .before .before .before .before .before .before .fill-in2 .result) _ (f .1) (f .2) inside again in
     rw (sends-body _ (a .pads) (a .pad) (f .0) (f .1))
-    (fits (f .0) (a .out .now) _ (a .pads) (a .pad) (sym (f .2)) (omega arith) _
-    (after-pads (f .0) (a .out .now) (c .before .before .before .before .before .before .fill-in2 .last .1 .1 .1 .1 .1 .0) (c .before .before .write-pads .last .0) _ (a .pads) (a .pad) (sym (f .2)) inside first (c .before .before .write-pads .ensures)))
+    (fits (f .0) (a .out .now) _ (a .pads) (a .pad) (sym (f .2)) (omega (arith, inside, c .before .before .before .before .before .before .before .before .if2 .left)) _
+    (after-pads (f .0) (a .out .now) (c .before .before .before .before .before .before .fill-in2 .last .1 .1 .1 .1 .1 .0)
+    (c .before .before .write-pads .last .0) _ (a .pads) (a .pad) (sym (f .2)) inside first (c .before .before .write-pads .ensures)))
 
 pub send-filled-spec : {M : Type 1} → statement M
 send-filled-spec =
@@ -143,6 +164,6 @@ send-filled-spec =
     part-write-pads-start
     part-write-pads-end
     write-pads-requires
-    add-t24
+    add-t23
     same-length-2
     returns-5)

@@ -28,7 +28,12 @@ take-next-requires : tie.Need-take-next-requires
 take-next-requires c κs = search needs
 
 returns-3 : tie.Need-returns-3
-returns-3 c = rw (le-leb _ _ (c .before .before .before .if1 .left), lt-ltb _ _ (c .before .before .if2 .left), c .take-next .ensures, c .before .raise-if .ensures)
+returns-3 c = rw (
+  le-leb _ _ (c .before .before .before .if1 .left),
+  lt-ltb _ _ (c .before .before .if2 .left),
+  c .take-next .ensures,
+  c .before .raise-if .ensures,
+)
 
 pub as-byte-spec : {M : Type 1} → statement M
 as-byte-spec =

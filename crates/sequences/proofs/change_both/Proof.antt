@@ -26,7 +26,11 @@ enum-told-2 : tie.Need-enum-told-2
 enum-told-2 c = search needs
 
 returns-2 : tie.Need-returns-2
-returns-2 c = rw (sym (c .before .before .before .before .before .before .change-value .ensures) ∙ c .before .before .before .before .h .given .1, sym (c .before .before .change-value2 .ensures) ∙ c .enum-told2 .given .1)
+returns-2 c = rw (
+  sym (c .before .before .before .before .before .before .change-value .ensures) ∙ c .before .before .before .before .h .given .1,
+  sym
+      (c .before .before .change-value2 .ensures) ∙ c .enum-told2 .given .1,
+)
 
 with-row-requires : tie.Need-with-row-requires
 with-row-requires c κs = search needs
@@ -35,7 +39,14 @@ with-column-requires : tie.Need-with-column-requires
 with-column-requires c κs = search needs
 
 returns-3 : tie.Need-returns-3
-returns-3 c = rw (sym (c .before .before .before .before .before .before .before .before .before .change-value .ensures) ∙ c .before .before .before .before .before .before .before .h .given .1, sym (c .before .before .before .before .before .change-value2 .ensures) ∙ c .before .before .before .k .given .1, c .with-column .ensures, c .before .with-row .ensures)
+returns-3 c = rw (
+  sym (c .before .before .before .before .before .before .before .before .before .change-value .ensures) ∙
+      c .before .before .before .before .before .before .before .h .given .1,
+  sym (c .before .before .before .before .before .change-value2 .ensures) ∙
+      c .before .before .before .k .given .1,
+  c .with-column .ensures,
+  c .before .with-row .ensures,
+)
 
 pub change-both-spec : {M : Type 1} → statement M
 change-both-spec =

@@ -40,7 +40,8 @@ returns : tie.Need-returns
 returns c = c .change-both .ensures ∙ row-first (c .before .before .before .args .c) (c .before .before .before .args .ps) (c .before .enum-told .given .1)
 
 returns-2 : tie.Need-returns-2
-returns-2 c = c .change-both2 .ensures ∙ column-first (c .before .before .before .args .c) (c .before .before .before .args .ps) (c .before .enum-told2 .given .1)
+returns-2 c = c .change-both2 .ensures ∙ column-first (c .before .before .before .args .c) (c .before .before .before .args .ps)
+    (c .before .enum-told2 .given .1)
 
 returns-3 : tie.Need-returns-3
 unfolding parametersOf

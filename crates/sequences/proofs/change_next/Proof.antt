@@ -27,12 +27,14 @@ enum-told c = search needs
 returns : tie.Need-returns
 returns c =
     let a = c .before .before .before .before .before .args in
-    rw (next-changed (parametersOf (a .ps)) _ (sym (c .before .before .next .given .1) ∙ c .before .before .before .before .next-parameter .ensures) (a .c)) (c .change-held .ensures)
+    rw (next-changed (parametersOf (a .ps)) _ (sym (c .before .before .next .given .1) ∙ c .before .before .before .before .next-parameter .ensures) (a .c))
+    (c .change-held .ensures)
 
 returns-2 : tie.Need-returns-2
 returns-2 c =
     let a = c .before .before .before .before .before .args in
-    rw (next-changed (parametersOf (a .ps)) _ (sym (c .before .before .next2 .given .1) ∙ c .before .before .before .before .next-parameter .ensures) (a .c)) (c .change-held2 .ensures)
+    rw (next-changed (parametersOf (a .ps)) _ (sym (c .before .before .next2 .given .1) ∙ c .before .before .before .before .next-parameter .ensures) (a .c))
+    (c .change-held2 .ensures)
 
 returns-3 : tie.Need-returns-3
 returns-3 c =

@@ -101,7 +101,8 @@ returns-6 : tie.Need-returns-6
 unfolding changed
 returns-6 c =
     let s : c .before .before .before .before .args .value < 65536 = omega arith in
-    rw (c .before .before .enum-told2 .given .1, non-negative (c .before .before .before .before .args .value) (c .before .if1 .left) s) (c .in-range2 .ensures)
+    rw (c .before .before .enum-told2 .given .1, non-negative (c .before .before .before .before .args .value) (c .before .if1 .left) s)
+    (c .in-range2 .ensures)
 
 returns-7 : tie.Need-returns-7
 unfolding changed
@@ -111,13 +112,15 @@ returns-8 : tie.Need-returns-8
 unfolding changed
 returns-8 c =
     let s : c .before .before .before .before .args .value < 65536 = omega arith in
-    rw (c .before .before .enum-told3 .given .1, non-negative (c .before .before .before .before .args .value) (c .before .if3 .left) s) (c .in-range5 .ensures)
+    rw (c .before .before .enum-told3 .given .1, non-negative (c .before .before .before .before .args .value) (c .before .if3 .left) s)
+    (c .in-range5 .ensures)
 
 returns-9 : tie.Need-returns-9
 unfolding changed
 returns-9 c =
     let s : c .before .before .before .before .args .value < 65536 = omega arith in
-    rw (c .before .before .enum-told4 .given .1, non-negative (c .before .before .before .before .args .value) (c .before .if4 .left) s) (c .in-range6 .ensures)
+    rw (c .before .before .enum-told4 .given .1, non-negative (c .before .before .before .before .args .value) (c .before .if4 .left) s)
+    (c .in-range6 .ensures)
 
 pub change-value-spec : {M : Type 1} → statement M
 change-value-spec =

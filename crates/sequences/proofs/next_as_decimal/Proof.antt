@@ -28,17 +28,20 @@ enum-told c = search needs
 returns : tie.Need-returns
 returns c =
     let a = c .before .before .before .before .before .args in
-    rw (next-done (parametersOf (a .ps)) _ (sym (c .before .before .next .given .1) ∙ c .before .before .before .before .next-parameter .ensures) (asDecimal (a .least) (parametersOf (a .ps)))) (c .as-decimal .ensures)
+    rw (next-done (parametersOf (a .ps)) _ (sym (c .before .before .next .given .1) ∙ c .before .before .before .before .next-parameter .ensures)
+    (asDecimal (a .least) (parametersOf (a .ps)))) (c .as-decimal .ensures)
 
 returns-2 : tie.Need-returns-2
 returns-2 c =
     let a = c .before .before .before .before .before .args in
-    rw (next-done (parametersOf (a .ps)) _ (sym (c .before .before .next2 .given .1) ∙ c .before .before .before .before .next-parameter .ensures) (asDecimal (a .least) (parametersOf (a .ps)))) (c .as-decimal2 .ensures)
+    rw (next-done (parametersOf (a .ps)) _ (sym (c .before .before .next2 .given .1) ∙ c .before .before .before .before .next-parameter .ensures)
+    (asDecimal (a .least) (parametersOf (a .ps)))) (c .as-decimal2 .ensures)
 
 returns-3 : tie.Need-returns-3
 returns-3 c =
     let a = c .before .before .before .args in
-    rw (next-done (parametersOf (a .ps)) _ (sym (c .enum-told .given .1) ∙ c .before .before .next-parameter .ensures) (asDecimal (a .least) (parametersOf (a .ps))))
+    rw (next-done (parametersOf (a .ps)) _ (sym (c .enum-told .given .1) ∙ c .before .before .next-parameter .ensures)
+    (asDecimal (a .least) (parametersOf (a .ps))))
 
 pub next-as-decimal-spec : {M : Type 1} → statement M
 next-as-decimal-spec =

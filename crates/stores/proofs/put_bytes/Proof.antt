@@ -32,14 +32,19 @@ loop-less c = omega arith
 loop-again : tie.Need-loop-again Inv-loop μ-loop
 loop-again c =
     let i = c .before .before .before .before .before .before .loop .inv in
-    let a = c .before .before .before .before .before .before .before .before .before .args in
-    (omega arith, c .before .before .put-after .ensures ∙ rw (i .1) (sym (stored-next (a .out .now) (a .at) (a .bytes .now) (c .before .before .before .before .before .before .loop .i) (omega arith))))
+    let a = c .before .before .before .before .before .before .before .before .before .args in (
+      omega arith,
+      c .before .before .put-after .ensures ∙ rw (i .1)
+          (sym (stored-next (a .out .now) (a .at) (a .bytes .now) (c .before .before .before .before .before .before .loop .i) (omega arith))),
+    )
 
 same-length : tie.Need-same-length Inv-loop μ-loop
-same-length c = ap length (c .before .loop .inv .1) ∙ length-sets (c .before .before .before .before .args .out .now) (c .before .before .before .before .args .at) (take (c .before .loop .i) (c .before .before .before .before .args .bytes .now))
+same-length c = ap length (c .before .loop .inv .1) ∙ length-sets (c .before .before .before .before .args .out .now)
+    (c .before .before .before .before .args .at) (take (c .before .loop .i) (c .before .before .before .before .args .bytes .now))
 
 returns : tie.Need-returns Inv-loop μ-loop
-returns c = let l : length (c .before .before .before .before .args .bytes .now) ≤ c .before .loop .i = omega arith in c .before .loop .inv .1 ∙ rw (take-all _ _ l)
+returns c = let l : length (c .before .before .before .before .args .bytes .now) ≤ c .before .loop .i = omega arith in c .before .loop .inv .1 ∙ rw
+    (take-all _ _ l)
 
 pub put-bytes-spec : {M : Type 1} → statement M
 put-bytes-spec =
