@@ -1,4 +1,4 @@
-//! Names the static library to the linker, for the one program that calls it.
+//! Names the static library to the linker, for the programs that call it.
 //!
 //! The unit tests of this package need no static library, so nothing is linked into them.
 
@@ -11,7 +11,7 @@ fn main() {
     let folder = env::var_os("TERMCAP_LIB_DIR").unwrap_or_else(|| "../target/staticlib".into());
     let archive = package.join(folder).join("libtermcap.a");
 
-    println!("cargo:rustc-link-arg-bin=differential={}", archive.display());
+    println!("cargo:rustc-link-arg-bins={}", archive.display());
     println!("cargo:rerun-if-env-changed=TERMCAP_LIB_DIR");
     println!("cargo:rerun-if-changed={}", archive.display());
     println!("cargo:rerun-if-changed=build.rs");
