@@ -1,4 +1,4 @@
-//! Names the static library to the linker, and compiles the plain C search.
+//! Names the static library to the linker, and compiles the rivals in plain C.
 
 use std::env;
 use std::path::{Path, PathBuf};
@@ -9,16 +9,19 @@ fn main() {
     // A relative folder is taken from this package's folder; an absolute one stands as it is.
     let folder = env::var_os("TERMCAP_LIB_DIR").unwrap_or_else(|| "../target/staticlib".into());
     let archive = package.join(folder).join("libtermcap.a");
-    let object = PathBuf::from(env::var_os("OUT_DIR").expect("cargo sets this")).join("search.o");
-    compile(&package.join("search.c"), &object);
+    let objects = PathBuf::from(env::var_os("OUT_DIR").expect("cargo sets this"));
+    for name in ["search", "sending"] {
+        let object = objects.join(name).with_extension("o");
+        compile(&package.join(name).with_extension("c"), &object);
+        println!("cargo:rustc-link-arg-bins={}", object.display());
+        println!("cargo:rerun-if-changed={name}.c");
+        println!("cargo:rerun-if-changed={name}.h");
+    }
 
-    println!("cargo:rustc-link-arg-bins={}", object.display());
     println!("cargo:rustc-link-arg-bins={}", archive.display());
     println!("cargo:rerun-if-env-changed=TERMCAP_LIB_DIR");
     println!("cargo:rerun-if-env-changed=CC");
-    for file in ["search.c", "search.h", "build.rs"] {
-        println!("cargo:rerun-if-changed={file}");
-    }
+    println!("cargo:rerun-if-changed=build.rs");
     println!("cargo:rerun-if-changed={}", archive.display());
 }
 

@@ -1,6 +1,7 @@
 //! All implementations give the same answers: to what is timed, and to more.
 
 use termcap_tests::random::Random;
+use termcap_tests::reference::Position;
 use termcap_tests::subject::{Reference, Subject, ACCEPTED};
 
 use crate::contender::{Row, Wanted, RIVALS};
@@ -18,10 +19,18 @@ const FILL: u8 = 0xA5;
 
 const TWISTED: u64 = 20_000;
 
+/// Rows and columns below this are tried with every command that is sent at a position; all bytes that
+/// are raised are among them.
+const SENT: u64 = 132;
+
+/// Every command that is timed fits this, and so does what a rival writes that tests no room.
+const SENDING_ROOM: usize = 512;
+
 /// The questions and the searches of a row.
 pub fn check_row(row: &Row) -> Checked {
     for question in &row.questions {
         check_question(question).map_err(|fault| format!("{}: {fault}", row.name))?;
+        check_sending(question).map_err(|fault| format!("{}: {fault}", row.name))?;
     }
     for wanted in &row.searches {
         check_search(*wanted, true).map_err(|fault| format!("{}: {fault}", row.name))?;
@@ -38,6 +47,30 @@ fn check_question(question: &Question) -> Checked {
         return Ok(());
     }
     Err(format!("ours answers {ours:?}, the reference {its:?}, or other bytes"))
+}
+
+/// The bytes that ours and the loop in C send for the command, for it and for other positions.
+fn check_sending(question: &Question) -> Checked {
+    check_sent(question)?;
+    if let Question::SendAt { command, position } = *question {
+        for place in 0..=SENT * SENT {
+            let (row, column) = (place / SENT, place % SENT);
+            check_sent(&Question::SendAt { command, position: Position { row, column, ..position } })?;
+        }
+    }
+    Ok(())
+}
+
+fn check_sent(question: &Question) -> Checked {
+    let (mut our_bytes, mut its_bytes) = (vec![FILL; SENDING_ROOM], vec![FILL; SENDING_ROOM]);
+    let Some(count) = question.send_plainly(&mut its_bytes) else {
+        return Ok(());
+    };
+    let ours = question.ask(&Library, &mut our_bytes);
+    if (ours.code, ours.numbers[0]) == (ACCEPTED, count as u64) && our_bytes == its_bytes {
+        return Ok(());
+    }
+    Err(format!("{question:?}: ours answers {ours:?}, the loop in C {count}, or other bytes"))
 }
 
 /// The start of the line that ours and the three searches in C give, and the reference if asked

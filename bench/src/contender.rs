@@ -14,15 +14,21 @@ pub enum Contender {
     CBytes,
     CMemchr,
     CSimd,
+    CLoop,
     Rust,
 }
 
 /// Rivals in the order of the table's columns.
-pub const RIVALS: [Contender; 4] =
-    [Contender::CBytes, Contender::CMemchr, Contender::CSimd, Contender::Rust];
+pub const RIVALS: [Contender; 5] = [
+    Contender::CBytes,
+    Contender::CMemchr,
+    Contender::CSimd,
+    Contender::CLoop,
+    Contender::Rust,
+];
 
 /// Questions that take turns, and the searches that they take as the rules say; without searches
-/// the row has no rivals in C.
+/// the row is not compared with the searches in C.
 pub struct Row<'a> {
     pub name: String,
     pub questions: Vec<Question<'a>>,
@@ -40,10 +46,12 @@ impl Row<'_> {
     /// Those that can answer the row, ours first.
     pub fn contenders(&self) -> Vec<Contender> {
         let mut contenders = vec![Contender::Ours];
-        contenders.extend(
-            RIVALS.iter().filter(|rival| !self.searches.is_empty() || rival.search().is_none()),
-        );
+        contenders.extend(RIVALS.iter().filter(|rival| rival.answers(self)));
         contenders
+    }
+
+    fn is_sending(&self) -> bool {
+        self.questions.iter().all(|question| !matches!(question, Question::Read { .. }))
     }
 
     /// Every question of a row takes equally many searches.
@@ -60,6 +68,7 @@ impl Contender {
             Contender::CBytes => "C bytes",
             Contender::CMemchr => "C memchr",
             Contender::CSimd => "C SIMD",
+            Contender::CLoop => "C loop",
             Contender::Rust => "Rust",
         }
     }
@@ -70,10 +79,18 @@ impl Contender {
         all.into_iter().find(|contender| contender.name() == name)
     }
 
-    /// The search of a contender in C, which has nothing else.
+    fn answers(self, row: &Row) -> bool {
+        match self {
+            Contender::Ours | Contender::Rust => true,
+            Contender::CBytes | Contender::CMemchr | Contender::CSimd => !row.searches.is_empty(),
+            Contender::CLoop => row.is_sending(),
+        }
+    }
+
+    /// The search of a contender in C that has nothing else.
     pub fn search(self) -> Option<Search> {
         match self {
-            Contender::Ours | Contender::Rust => None,
+            Contender::Ours | Contender::CLoop | Contender::Rust => None,
             Contender::CBytes => Some(plain_c::bytes),
             Contender::CMemchr => Some(plain_c::memchr),
             Contender::CSimd => Some(plain_c::simd),
@@ -83,10 +100,16 @@ impl Contender {
     /// One question of the row, or the searches for it; which one, turns about.
     pub fn take(self, row: &Row, turn: usize, out: &mut [u8]) {
         let place = turn % row.questions.len();
-        match self.search() {
-            Some(search) => search_all(search, row.searches_for(place)),
-            None if self == Contender::Ours => ask(&Library, &row.questions[place], out),
-            None => ask(&Reference, &row.questions[place], out),
+        let question = &row.questions[place];
+        match self {
+            Contender::Ours => ask(&Library, question, out),
+            Contender::Rust => ask(&Reference, question, out),
+            Contender::CBytes => search_all(plain_c::bytes, row.searches_for(place)),
+            Contender::CMemchr => search_all(plain_c::memchr, row.searches_for(place)),
+            Contender::CSimd => search_all(plain_c::simd, row.searches_for(place)),
+            Contender::CLoop => {
+                black_box(black_box(question).send_plainly(out));
+            }
         }
     }
 }

@@ -1,14 +1,12 @@
-//! Instructions of a search, counted by callgrind: unlike times, they hardly differ between runs.
+//! Instructions of a call, counted by callgrind: unlike times, they hardly differ between runs.
 
 use std::io;
 use std::process::{Child, Command, Stdio};
 
 use crate::contender::{Contender, Row};
 use crate::question::ROOM;
+use crate::targets::Targets;
 
-/// The reference is left out: it takes too long to count, and much of it is the allocator's.
-const COUNTED: [Contender; 4] =
-    [Contender::Ours, Contender::CBytes, Contender::CMemchr, Contender::CSimd];
 const CELL: usize = 20;
 
 /// What is counted: so many passes of one contender through all questions of a row.
@@ -19,31 +17,38 @@ pub fn passes(row: &Row, contender: Contender, passes: usize) {
     }
 }
 
-pub fn print(rows: &[Row]) {
-    println!("\nInstructions a call, and those of each rival as a multiple of ours");
+/// The row's contenders but for the reference: it takes too long to count, and much of it is the
+/// allocator's.
+fn counted(row: &Row) -> Vec<Contender> {
+    row.contenders().into_iter().filter(|one| *one != Contender::Rust).collect()
+}
+
+/// Rows with the same contenders.
+pub fn print(title: &str, rows: &[Row], targets: &mut Targets) {
+    println!("\nInstructions a call, and those of each rival as a multiple of ours: {title}");
     let version = Command::new("valgrind").arg("--version").stdout(Stdio::null()).status();
     if !version.is_ok_and(|status| status.success()) {
         println!("  not counted: valgrind is not there");
         return;
     }
     print!("\n  {:26}", "");
-    COUNTED.iter().for_each(|one| print!(" {:>CELL$}", one.name()));
+    counted(&rows[0]).iter().for_each(|one| print!(" {:>CELL$}", one.name()));
     println!();
     for row in rows {
-        match COUNTED.iter().map(|one| count(row, *one)).collect::<Option<Vec<f64>>>() {
-            Some(counts) => print_row(row, &counts),
+        match counted(row).iter().map(|one| count(row, *one)).collect::<Option<Vec<f64>>>() {
+            Some(counts) => print_row(row, &counts, targets),
             None => println!("  {:26} not counted: valgrind failed", row.name),
         }
     }
 }
 
-fn print_row(row: &Row, counts: &[f64]) {
+fn print_row(row: &Row, counts: &[f64], targets: &mut Targets) {
     print!("  {:26}", row.name);
     for (place, count) in counts.iter().enumerate() {
         let ratio = if place == 0 { String::new() } else { format!("{:.2}", count / counts[0]) };
         print!(" {:>CELL$}", format!("{count:.0} {ratio:>7}"));
     }
-    println!();
+    println!("{}", targets.judge(&row.name, "instructions", counts[0]));
 }
 
 /// Instructions a question: those of two passes without those of one, so that making the database

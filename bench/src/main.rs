@@ -43,8 +43,8 @@ fn print_large() -> ExitCode {
 /// Passes of one row by one contender and nothing else, to count instructions of.
 fn count(row: &str, contender: &str, passes: &str) -> ExitCode {
     let large = Large::new(LARGE);
-    let rows = rows::searching(&large);
-    let row = rows.iter().find(|one| one.name == row);
+    let groups = rows::groups(&large);
+    let row = groups.iter().flat_map(|group| &group.rows).find(|one| one.name == row);
     match (row, Contender::by_name(contender), passes.parse()) {
         (Some(row), Some(contender), Ok(passes)) => counts::passes(row, contender, passes),
         _ => return usage(),
@@ -90,7 +90,11 @@ fn measure(targets: &mut Targets) -> agreement::Checked {
     main_table::print(&groups, targets);
     growth::print(&series);
     hostile::print(&hostile, targets);
+    let [searching, _, _, sending] = &groups[..] else {
+        return Err("the groups of rows are not those that are counted".to_string());
+    };
     // The chain would take as long to count as the others together.
-    counts::print(&groups[0].rows[..3]);
+    counts::print("searching", &searching.rows[..3], targets);
+    counts::print("sending", &sending.rows, targets);
     Ok(())
 }

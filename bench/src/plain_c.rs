@@ -1,10 +1,34 @@
-//! The three searches of `search.c`.
+//! The three searches of `search.c`, and the sending of `sending.c`.
+
+use termcap_tests::reference::Position;
 
 extern "C" {
     fn search_bytes(db: *const u8, db_len: usize, name: *const u8, name_len: usize) -> usize;
     fn search_memchr(db: *const u8, db_len: usize, name: *const u8, name_len: usize) -> usize;
     fn search_simd(db: *const u8, db_len: usize, name: *const u8, name_len: usize) -> usize;
     fn search_simd_is_vector() -> i32;
+    fn plain_send(
+        command: *const u8,
+        command_len: usize,
+        line_count: u32,
+        speed: u32,
+        pad: u8,
+        out: *mut u8,
+    ) -> usize;
+    fn plain_send_at(
+        command: *const u8,
+        command_len: usize,
+        row: i32,
+        column: i32,
+        back: *const u8,
+        back_len: usize,
+        up: *const u8,
+        up_len: usize,
+        line_count: u32,
+        speed: u32,
+        pad: u8,
+        out: *mut u8,
+    ) -> usize;
 }
 
 /// The start of the first line that holds the name, or `NOWHERE`.
@@ -27,4 +51,36 @@ pub fn simd(database: &[u8], name: &[u8]) -> usize {
 /// Whether `simd` has vector instructions on this machine; otherwise it is `memchr`.
 pub fn simd_is_vector() -> bool {
     unsafe { search_simd_is_vector() == 1 }
+}
+
+/// Neither of the two tests whether what it writes fits `out`: its caller lends enough.
+pub fn send(command: &[u8], lines: u64, speed: u64, pad: u8, out: &mut [u8]) -> usize {
+    let (lines, speed) = (lines as u32, speed as u32);
+    unsafe { plain_send(command.as_ptr(), command.len(), lines, speed, pad, out.as_mut_ptr()) }
+}
+
+pub fn send_at(
+    command: &[u8],
+    position: Position,
+    lines: u64,
+    speed: u64,
+    pad: u8,
+    out: &mut [u8],
+) -> usize {
+    unsafe {
+        plain_send_at(
+            command.as_ptr(),
+            command.len(),
+            position.row as i32,
+            position.column as i32,
+            position.back.as_ptr(),
+            position.back.len(),
+            position.up.as_ptr(),
+            position.up.len(),
+            lines as u32,
+            speed as u32,
+            pad,
+            out.as_mut_ptr(),
+        )
+    }
 }

@@ -3,6 +3,8 @@
 use termcap_tests::reference::Position;
 use termcap_tests::subject::Subject;
 
+use crate::plain_c;
+
 #[derive(Clone, Copy, Debug, PartialEq, Eq)]
 pub enum Reading {
     Show,
@@ -67,5 +69,17 @@ impl Question<'_> {
             }
         };
         Answer { code, numbers }
+    }
+    /// The same by the loop in C, which only sends: the number of bytes that it wrote, if it can.
+    pub fn send_plainly(&self, out: &mut [u8]) -> Option<usize> {
+        match *self {
+            Question::Read { .. } => None,
+            Question::Send { command, speed } => {
+                Some(plain_c::send(command, LINES, speed, PAD, out))
+            }
+            Question::SendAt { command, position } => {
+                Some(plain_c::send_at(command, position, LINES, SPEED, PAD, out))
+            }
+        }
     }
 }

@@ -114,10 +114,15 @@ fn read<'a>(reading: Reading, database: &'a [u8], name: &'a [u8], id: &'a [u8]) 
     Question::Read { reading, database, name, id }
 }
 
+/// A command with no sequence in it.
+const PLAIN: [u8; 100] = [b'x'; 100];
+
 fn sending() -> Vec<Row<'static>> {
-    let position = Position { row: 10, column: 33, back: b"\x08", up: b"\x1b[A" };
     let send = |command| Question::Send { command, speed: 9_600 };
-    let send_at = |command| Question::SendAt { command, position };
+    let send_at = |command, row, column| Question::SendAt {
+        command,
+        position: Position { row, column, back: b"\x08", up: b"\x1b[A" },
+    };
     let row = |name: &str, question| Row {
         name: name.to_string(),
         questions: vec![question],
@@ -127,7 +132,9 @@ fn sending() -> Vec<Row<'static>> {
         row("Send, 0 pads", send(b"\x1b[H\x1b[2J")),
         row("Send, 5 pads", send(b"5\x1b[H\x1b[2J")),
         row("Send, 48 pads", send(b"50\x1b[H\x1b[2J")),
-        row("Send at, decimals", send_at(b"\x1b[%i%d;%dH")),
-        row("Send at, bytes", send_at(b"\x1b=%+ %+ ")),
+        row("Send at, decimals", send_at(b"\x1b[%i%d;%dH", 20, 58)),
+        row("Send at, bytes", send_at(b"%+ %+ ", 0, 79)),
+        row("Send at, raised bytes", send_at(b"%.%.", 9, 10)),
+        row("Send at, 100 plain bytes", send_at(&PLAIN, 20, 58)),
     ]
 }
