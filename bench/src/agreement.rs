@@ -19,8 +19,8 @@ const FILL: u8 = 0xA5;
 
 const TWISTED: u64 = 20_000;
 
-/// Rows and columns below this are tried with every command that is sent at a position; all bytes that
-/// are raised are among them.
+/// Rows and columns below this are tried with every command that is sent at a position. All bytes
+/// that are raised are among them.
 const SENT: u64 = 132;
 
 /// Every command that is timed fits this, and so does what a rival writes that tests no room.
@@ -53,9 +53,12 @@ fn check_question(question: &Question) -> Checked {
 fn check_sending(question: &Question) -> Checked {
     check_sent(question)?;
     if let Question::SendAt { command, position } = *question {
-        for place in 0..=SENT * SENT {
+        for place in 0..SENT * SENT {
             let (row, column) = (place / SENT, place % SENT);
-            check_sent(&Question::SendAt { command, position: Position { row, column, ..position } })?;
+            check_sent(&Question::SendAt {
+                command,
+                position: Position { row, column, ..position },
+            })?;
         }
     }
     Ok(())

@@ -19,13 +19,8 @@ pub enum Contender {
 }
 
 /// Rivals in the order of the table's columns.
-pub const RIVALS: [Contender; 5] = [
-    Contender::CBytes,
-    Contender::CMemchr,
-    Contender::CSimd,
-    Contender::CLoop,
-    Contender::Rust,
-];
+pub const RIVALS: [Contender; 5] =
+    [Contender::CBytes, Contender::CMemchr, Contender::CSimd, Contender::CLoop, Contender::Rust];
 
 /// Questions that take turns, and the searches that they take as the rules say; without searches
 /// the row is not compared with the searches in C.
