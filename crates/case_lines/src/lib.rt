@@ -6,10 +6,9 @@ ghost use mathlib.Core.List.{_∷_};
 ghost use Prim.Native.Nat.{_≤_, _<_, min, max};
 ghost use lib.ListN.{length, drop};
 ghost use lib.Seq.{sets};
+ghost use Rattle.io.specs.Counts.{Counts};
 ghost use Rattle.case_lines.specs.Fields.{placeOf, after, fieldOf, digitOf, numberOf, hexDigitOf, bytesOf, textOf};
 use spec::Written;
-
-const MOST_ROOM: usize = 64;
 
 // A byte of a text, and the place after what it is written as.
 struct Decoded {
@@ -130,6 +129,7 @@ fn decode(s: &[u8], at: usize) -> Decoded
 pub fn text(line: &[u8], k: u8, out: &mut [u8]) -> usize
     ensures { λ r. ⌜ (r ≡ min (length (textOf (now (line .entry)) k)) (length (now (out .exit))))
         × (now (out .exit) ≡ sets (now (out .entry)) 0 (textOf (now (line .entry)) k)) ⌝ }
+    ensures { λ r. ⌜ Counts r (now (out .exit)) ⌝ }
 {
     let f = field(line, k);
     let mut i = 0;
@@ -146,12 +146,14 @@ pub fn text(line: &[u8], k: u8, out: &mut [u8]) -> usize
     n
 }
 
-pub fn room(line: &[u8], k: u8) -> usize
-    ensures { λ r. ⌜ r ≡ min 64 (numberOf (now (line .entry)) k) ⌝ }
+// As many bytes of a buffer as a field says, or all.
+pub fn room(line: &[u8], k: u8, buffer: &[u8]) -> usize
+    ensures { λ r. ⌜ r ≡ min (length (now (buffer .entry))) (numberOf (now (line .entry)) k) ⌝ }
+    ensures { λ r. ⌜ Counts r (now (buffer .entry)) ⌝ }
 {
     let n = number(line, k) as usize;
-    if n > MOST_ROOM {
-        return MOST_ROOM;
+    if n > buffer.len() {
+        return buffer.len();
     }
     n
 }

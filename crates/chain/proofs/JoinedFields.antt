@@ -6,7 +6,7 @@ use mathlib.Core.List.{List, [], _++_}
 use native.Mathlib.Numerals.{add-one}
 use native.Mathlib.Omega.{arith}
 use lib.ListN.{length, take, drop, getD, length-take, drop-of-length-le}
-use lib.Seq.{slice-cons}
+use lib.Seq.{drop-cons, getD-take}
 use Rattle.spec.specs.Lines.{lineAt}
 use Rattle.spec.specs.Fields.{fieldsOf}
 use Rattle.spec.specs.Chain.{Field, placed, joinedFields}
@@ -20,12 +20,19 @@ module _ (db places : List ℕ) (n : ℕ) where
   unfolding fieldsFrom
   from-first = refl
 
-  pub from-end : (i : ℕ) → n ≤ i → fieldsFrom db places n i ≡ []
+  from-past : (i : ℕ) → length (take n places) ≤ i → fieldsFrom db places n i ≡ []
   unfolding fieldsFrom joinedFields
-  from-end i h =
-      let z : length (take n places) ≤ i = simp length-take (omega arith) in
-      rw (drop-of-length-le (take n places) z)
+  from-past i h = rw (drop-of-length-le (take n places) h)
 
-  pub from-next : (i : ℕ) → i < n → n ≤ length places → fieldsFrom db places n i ≡ placed i (fieldsOf (lineAt db (getD places i 0))) ++ fieldsFrom db places n (i + 1)
+  pub from-end : (i : ℕ) → n ≤ i → fieldsFrom db places n i ≡ []
+  from-end i h = from-past i (simp length-take (omega arith))
+
+  pub from-all : (i : ℕ) → length places ≤ i → fieldsFrom db places n i ≡ []
+  from-all i h = from-past i (simp length-take (omega arith))
+
+  pub from-next : (i : ℕ) → i < n → i < length places
+      → fieldsFrom db places n i ≡ placed i (fieldsOf (lineAt db (getD places i 0))) ++ fieldsFrom db places n (i + 1)
   unfolding fieldsFrom joinedFields
-  from-next i h k = rw (slice-cons i n places 0 h k, add-one i)
+  from-next i h k =
+      let z : i < length (take n places) = simp length-take (omega arith) in
+      rw (drop-cons (take n places) i 0 z, getD-take n places i 0 h, add-one i)

@@ -13,9 +13,12 @@ ghost use Rattle.spec.specs.Chain.{visited};
 ghost use Rattle.chain.specs.Answers.{placesOf, Walked};
 ghost use Rattle.field_bounds.specs.Answers.{fieldAt};
 
+// A chain of more descriptions is refused with 8.
+pub const MOST_DESCRIPTIONS: usize = 32;
+
 // The places where the descriptions of a chain start, in order: the first `count` of `places`.
 pub struct Chain {
-    pub places: [usize; 32],
+    pub places: [usize; MOST_DESCRIPTIONS],
     pub count: usize,
 }
 
@@ -84,7 +87,7 @@ pub fn no_chain(r: Refusal) -> Walk
     refused(
         r,
         Chain {
-            places: [0; 32],
+            places: [0; MOST_DESCRIPTIONS],
             count: 0,
         },
     )
@@ -95,7 +98,7 @@ pub fn follow_links(db: &[u8], name: &[u8]) -> Walk
     ensures { λ w. ⌜ Walked (now (db .entry)) (now (name .entry)) (w .chain) (w .ended) ⌝ }
 {
     let mut c = Chain {
-        places: [0; 32],
+        places: [0; MOST_DESCRIPTIONS],
         count: 0,
     };
     let mut left: usize = 16384;
@@ -108,7 +111,7 @@ pub fn follow_links(db: &[u8], name: &[u8]) -> Walk
         if is_visited(c, p) {
             return refused(Refusal::Cycle, c);
         }
-        if c.count >= 32 {
+        if c.count >= MOST_DESCRIPTIONS {
             return refused(Refusal::ChainTooLarge, c);
         }
         match judge_line(db, p) {

@@ -33,7 +33,7 @@ use Rattle.spec.specs.declared.Answer.{Answer}
 use Rattle.spec.specs.declared.Answer.the-variants.{Present, Absent, Refused as NotAnswered}
 use Rattle.spec.specs.declared.Written.{Written}
 use Rattle.spec.specs.declared.Written.the-variants.{Count, Refused}
-use Rattle.demands.specs.Demand3.{Accepted, HasRoom, QuestionHasRoom, question, cut, listed, oneLine, bigEndian, tells, occurrences, atPlaceZero, Demand3}
+use Rattle.demands.specs.Demand3.{Accepted, HasRoom, QuestionHasRoom, question, cut, listed, oneLine, bigEndian, isOf, tells, pairs, occurrences, atPlaceZero, Demand3, EveryAccepted}
 use Rattle.spec.specs.Listing.{fourBytes, recordOf, records, listFor, listOutcome, flatText, flatFor, flatOutcome}
 use Rattle.spec.proofs.FlatAlone.{sound, asked-is, flag-same, number-same, string-same, list-same, flat-same}
 use Rattle.spec.proofs.Records.{AllSmall, record-length, records-length, values-small, placed-length}
@@ -86,8 +86,15 @@ four-value v h =
     let top : v / 16777216 < 256 = omega arith in
     rw (mod-eq-of-lt top, f, e) (pack v (v / 256) (v / 256 / 256) (v / 256 / 256 / 256) (v % 256) (v / 256 % 256) (v / 256 / 256 % 256) (div-add-mod v 256) (div-add-mod (v / 256) 256) (div-add-mod (v / 256 / 256) 256))
 
+is-of-record : (id : List ℕ) (k p : ℕ) (r : Reading) → canWin r ≡ true → isOf id k (recordOf p r) ≡ matches id k r
+unfolding isOf recordOf matches canWin
+is-of-record id k p malformed w = clash (sym w)
+is-of-record id k p ignored w = clash (sym w)
+is-of-record id k p (link n) w = clash (sym w)
+is-of-record id k p (capability a b t) w = refl
+
 tells-record : (id : List ℕ) (k v p : ℕ) (r : Reading) → canWin r ≡ true → valueOf r < 4294967296 → tells id k v (recordOf p r) ≡ both (matches id k r) (eqb (valueOf r) v)
-unfolding tells recordOf matches canWin valueOf
+unfolding tells isOf recordOf matches canWin valueOf
 tells-record id k v p malformed w s = clash (sym w)
 tells-record id k v p ignored w s = clash (sym w)
 tells-record id k v p (link n) w s = clash (sym w)
@@ -137,26 +144,28 @@ times-one v (hit t) = (go (eqb (valueOf (reading t)) v) refl, λ e. let q : valu
     go true h e = ap Present (eqb-true (valueOf (reading t)) v h)
     go false h e = absurd (omega arith)
 
-times-most : (v : ℕ) (a : Answer) → times v a ≤ 1
-times-most v (Present u) = go (eqb u v)
-  where
-    go : (x : Bool) → pick {A = ℕ} x 1 0 ≤ 1
-    go true = omega arith
-    go false = omega arith
-times-most v Absent = omega arith
-times-most v (NotAnswered r) = omega arith
+-- ---- a pair is there at most once
 
-module _ (id : List ℕ) (k v : ℕ) where
-  here : (f : Field) (fs : List Field) → canWin (reading (f .text)) ≡ true → valueOf (reading (f .text)) < 4294967296
-      → occurrences id k v (recordList (f ∷ fs)) ≡ pick (both (matches id k (reading (f .text))) (eqb (valueOf (reading (f .text))) v)) 1 0 + occurrences id k v (recordList fs)
-  unfolding occurrences recordList
-  here f fs w s = rw (tells-record id k v (f .place) (reading (f .text)) w s)
+both-fewer : (x y : Bool) → pick {A = ℕ} (both x y) 1 0 ≤ pick x 1 0
+both-fewer true true = omega arith
+both-fewer true false = omega arith
+both-fewer false y = omega arith
 
-  no-more : (r : Reading) → matches id k r ≡ true → (fs : List Field) → AllWin (texts fs) → AllSmall (texts fs) → Clear r (texts fs) → occurrences id k v (recordList fs) ≡ 0
+no-more-often : (id : List ℕ) (k v : ℕ) (rs : List (List ℕ)) → occurrences id k v rs ≤ pairs id k rs
+unfolding occurrences pairs tells
+no-more-often id k v [] = omega arith
+no-more-often id k v (r ∷ rs) = omega (arith, both-fewer (isOf id k r) (eqb (bigEndian 0 (drop 4 r)) v), no-more-often id k v rs)
+
+module _ (id : List ℕ) (k : ℕ) where
+  pair-here : (f : Field) (fs : List Field) → canWin (reading (f .text)) ≡ true
+      → pairs id k (recordList (f ∷ fs)) ≡ pick (matches id k (reading (f .text))) 1 0 + pairs id k (recordList fs)
+  unfolding pairs recordList
+  pair-here f fs w = rw (is-of-record id k (f .place) (reading (f .text)) w)
+
+  no-pair : (r : Reading) → matches id k r ≡ true → (fs : List Field) → AllWin (texts fs) → Clear r (texts fs) → pairs id k (recordList fs) ≡ 0
   unfolding texts
-  no-more r e [] w s c = unfold occurrences recordList in refl
-  no-more r e (f ∷ fs) w s c =
-      rw (here f fs (w .0) (s .0), other (matches id k (reading (f .text))) refl, no-more r e fs (w .2) (s .1) (c .1))
+  no-pair r e [] w c = unfold pairs recordList in refl
+  no-pair r e (f ∷ fs) w c = rw (pair-here f fs (w .0), other (matches id k (reading (f .text))) refl, no-pair r e fs (w .2) (c .1))
     where
       either-right : (x : Bool) → either x true ≡ true
       either-right true = refl
@@ -165,6 +174,24 @@ module _ (id : List ℕ) (k v : ℕ) where
       other : (x : Bool) → matches id k (reading (f .text)) ≡ x → matches id k (reading (f .text)) ≡ false
       other true h = clash (sym (rw e (either-right (matches id 0 r))) ∙ sym (matches-hides id k (reading (f .text)) r h) ∙ c .0)
       other false h = h
+
+  one-pair : (fs : List Field) → AllWin (texts fs) → pairs id k (recordList fs) ≤ 1
+  unfolding texts
+  one-pair [] w = unfold pairs recordList in omega arith
+  one-pair (f ∷ fs) w = rw (pair-here f fs (w .0)) (go (matches id k (reading (f .text))) refl (one-pair fs (w .2)))
+    where
+      go : (x : Bool) → matches id k (reading (f .text)) ≡ x → pairs id k (recordList fs) ≤ 1 → pick {A = ℕ} x 1 0 + pairs id k (recordList fs) ≤ 1
+      go true h rest = rw (no-pair (reading (f .text)) h fs (w .2) (w .1)) (omega arith)
+      go false h rest = omega (arith, rest)
+
+module _ (id : List ℕ) (k v : ℕ) where
+  here : (f : Field) (fs : List Field) → canWin (reading (f .text)) ≡ true → valueOf (reading (f .text)) < 4294967296
+      → occurrences id k v (recordList (f ∷ fs)) ≡ pick (both (matches id k (reading (f .text))) (eqb (valueOf (reading (f .text))) v)) 1 0 + occurrences id k v (recordList fs)
+  unfolding occurrences recordList
+  here f fs w s = rw (tells-record id k v (f .place) (reading (f .text)) w s)
+
+  no-more : (r : Reading) → matches id k r ≡ true → (fs : List Field) → AllWin (texts fs) → Clear r (texts fs) → occurrences id k v (recordList fs) ≡ 0
+  no-more r e fs w c = omega (arith, no-more-often id k v (recordList fs), no-pair id k r e fs w c)
 
   occurs : (fs : List Field) → AllWin (texts fs) → AllSmall (texts fs) → occurrences id k v (recordList fs) ≡ times v (hitAnswer (lookup id k fs))
   unfolding texts hitAnswer
@@ -176,7 +203,7 @@ module _ (id : List ℕ) (k v : ℕ) where
 
       go : (x : Bool) → matches id k (reading (f .text)) ≡ x → occurrences id k v (recordList fs) ≡ times v (hitAnswer (lookup id k fs))
           → pick (both x (eqb (valueOf (reading (f .text))) v)) 1 0 + occurrences id k v (recordList fs) ≡ times v (hitAnswer (lookup id k (f ∷ fs)))
-      go true h ih = rw (lookup-hit id k f fs no h, no-more (reading (f .text)) h fs (w .2) (s .1) (w .1)) (omega arith)
+      go true h ih = rw (lookup-hit id k f fs no h, no-more (reading (f .text)) h fs (w .2) (w .1)) (omega arith)
       go false h ih = rw (lookup-on id k f fs no h) (omega (arith, ih))
 
 -- ---- questions
@@ -278,15 +305,15 @@ module _ (db name names : List ℕ) (fs : List Field) (accepted : Accepted db na
   occurs-in k id v buffer h =
       rw (listed-is buffer h, occurs id (kindNumber k) v (winning fs) wins small, lookup-winning fs id (kindNumber k) (positive k))
 
-  pub demand-3 : Demand3 db name fs
-  demand-3 =
+  demanded : Demand3 db name fs
+  demanded =
       record {
         listing = list-room;
         found = λ k id v buffer lent h q.
             let a = times-one v (lookup id (kindNumber k) fs) in
             let b = asked-answer k id v in
             rw (occurs-in k id v buffer h, question-answer k db name id lent q) ((λ e. b .1 (a .0 e)), (λ e. a .1 (b .0 e)));
-        once = λ k id v buffer h. rw (occurs-in k id v buffer h) (times-most v (hitAnswer (lookup id (kindNumber k) fs)));
+        once = λ k id buffer h. rw (listed-is buffer h) (one-pair id (kindNumber k) (winning fs) wins);
         flag = λ buffer h id. rw (line-is buffer h) (flag-same db name names fs accepted id);
         number = λ buffer h id. rw (line-is buffer h) (number-same db name names fs accepted id);
         string = λ buffer h id lent. rw (line-is buffer h) (string-same db name names fs accepted id lent);
@@ -307,10 +334,5 @@ module _ (db name names : List ℕ) (fs : List Field) (accepted : Accepted db na
           rw (n, list-is lent) (put-like (records zs) (records (winning fs)) (length (winning fs)) lent l) in
           (rw p a, ap listed p ∙ put-listed zs lent w (rw a q) ∙ ground-records (winning fs) wins ∙ ap (map atPlaceZero) (sym (listed-is lent q)))
 
--- Every chain is refused, or accepted and as demanded.
-pub every : (db name : List ℕ) → ((r : Refusal) × (terminalOf db name ≡ refused r)) ⊎ ((names : List ℕ) × (fs : List Field) × Accepted db name names fs × Demand3 db name fs)
-every db name = go (terminalOf db name) refl
-  where
-    go : (t : Terminal) → terminalOf db name ≡ t → ((r : Refusal) × (terminalOf db name ≡ refused r)) ⊎ ((names : List ℕ) × (fs : List Field) × Accepted db name names fs × Demand3 db name fs)
-    go (refused r) e = inl (r, e)
-    go (terminal names fs) e = inr (names, fs, e, demand-3 db name names fs e)
+pub demand-3 : EveryAccepted
+demand-3 = demanded

@@ -1,1 +1,4 @@
+pub mod Demand1
+pub mod Padding
+pub mod Winning
 pub mod Demand3

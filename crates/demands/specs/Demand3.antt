@@ -65,9 +65,17 @@ unfoldable pub bigEndian : ℕ → List ℕ → ℕ
 bigEndian v [] = v
 bigEndian v (b ∷ l) = bigEndian (v * 256 + b) l
 
--- Whether a record has this name, this kind and this value.
+-- Whether a record has this name and this kind, and whether it has this value too.
+unfoldable pub isOf : List ℕ → ℕ → List ℕ → Bool
+isOf id k r = both (same id (take 2 r)) (eqb k (getD r 2 0))
+
 unfoldable pub tells : List ℕ → ℕ → ℕ → List ℕ → Bool
-tells id k v r = both (both (same id (take 2 r)) (eqb k (getD r 2 0))) (eqb (bigEndian 0 (drop 4 r)) v)
+tells id k v r = both (isOf id k r) (eqb (bigEndian 0 (drop 4 r)) v)
+
+-- How many records have this name and kind, and how many have this value too.
+unfoldable pub pairs : List ℕ → ℕ → List (List ℕ) → ℕ
+pairs id k [] = 0
+pairs id k (r ∷ rs) = pick (isOf id k r) 1 0 + pairs id k rs
 
 unfoldable pub occurrences : List ℕ → ℕ → ℕ → List (List ℕ) → ℕ
 occurrences id k v [] = 0
@@ -86,9 +94,8 @@ pub record Demand3 (db name : List ℕ) (fs : List Field) : Type 0 where
   -- a name, kind and value are in the listing exactly once if and only if the question finds them
   pub found : (k : Kind) (id : List ℕ) (v : ℕ) (buffer lent : List ℕ) → HasRoom (listOutcome db name buffer .answer) → QuestionHasRoom (question k db name id lent)
       → (occurrences id (kindNumber k) v (listed (listOutcome db name buffer)) ≡ 1) ↔ (question k db name id lent ≡ Present v)
-  -- and never more often
-  pub once : (k : Kind) (id : List ℕ) (v : ℕ) (buffer : List ℕ) → HasRoom (listOutcome db name buffer .answer)
-      → occurrences id (kindNumber k) v (listed (listOutcome db name buffer)) ≤ 1
+  -- a pair of name and kind is never there twice, whatever the values
+  pub once : (k : Kind) (id buffer : List ℕ) → HasRoom (listOutcome db name buffer .answer) → pairs id (kindNumber k) (listed (listOutcome db name buffer)) ≤ 1
   -- Flat alone answers each question as the whole chain does, refusals and buffers included
   pub flag : (buffer : List ℕ) → HasRoom (flatOutcome db name buffer .answer) → (id : List ℕ)
       → flagAnswer (oneLine (flatOutcome db name buffer)) name id ≡ flagAnswer db name id
@@ -104,3 +111,7 @@ pub record Demand3 (db name : List ℕ) (fs : List Field) : Type 0 where
   -- "Flat of Flat gives the same bytes"
   pub flat-flat : (buffer : List ℕ) → HasRoom (flatOutcome db name buffer .answer) → (lent : List ℕ)
       → flatOutcome (oneLine (flatOutcome db name buffer)) name lent ≡ flatOutcome db name lent
+
+-- THE STATEMENT: all this holds of every accepted chain. Its proof is proofs/Demand3.
+abbrev pub EveryAccepted : Type 0
+EveryAccepted = (db name names : List ℕ) (fs : List Field) → Accepted db name names fs → Demand3 db name fs

@@ -24,7 +24,8 @@ use Rattle.descriptions.specs.declared.Judged.the-variants.{Malformed as
 -- ---- the answers that an arm `_` takes together, by their tags
 
 -- all but an ignored field
-pub not-ignored : (s : List ℕ) (at : ℕ) (r : FieldRead) → Reads s at r → OneOf (0 ∷ 2 ∷ 3 ∷ 4 ∷ 5 ∷ 6 ∷ []) (tagOf the-type r) → isIgnoredField (reading (fieldAt s at)) ≡ false
+pub not-ignored : (s : List ℕ) (at : ℕ) (r : FieldRead) → Reads s at r → OneOf (0 ∷ 2 ∷ 3 ∷ 4 ∷ 5 ∷ 6 ∷ []) (tagOf the-type r)
+    → isIgnoredField (reading (fieldAt s at)) ≡ false
 unfolding isIgnoredField
 not-ignored s at Malformed h t = rw h
 not-ignored s at Ignored h t = absurd (miss (0 ∷ 2 ∷ 3 ∷ 4 ∷ 5 ∷ 6 ∷ []) 1 tt t)
@@ -35,7 +36,8 @@ not-ignored s at (Number a b v) h t = rw h
 not-ignored s at (String a b text n) h t = rw (h .1)
 
 -- all but a malformed field and a link
-pub judge-on : (s : List ℕ) (at : ℕ) (fs : List (List ℕ)) (r : FieldRead) → Reads s at r → OneOf (1 ∷ 3 ∷ 4 ∷ 5 ∷ 6 ∷ []) (tagOf the-type r) → judge (fieldAt s at ∷ fs) ≡ judge fs
+pub judge-on : (s : List ℕ) (at : ℕ) (fs : List (List ℕ)) (r : FieldRead) → Reads s at r → OneOf (1 ∷ 3 ∷ 4 ∷ 5 ∷ 6 ∷ []) (tagOf the-type r)
+    → judge (fieldAt s at ∷ fs) ≡ judge fs
 judge-on s at fs Malformed h t = absurd (miss (1 ∷ 3 ∷ 4 ∷ 5 ∷ 6 ∷ []) 0 tt t)
 judge-on s at fs Ignored h t = judge-ignored _ fs h
 judge-on s at fs (Link name) h t = absurd (miss (1 ∷ 3 ∷ 4 ∷ 5 ∷ 6 ∷ []) 2 tt t)
@@ -97,11 +99,13 @@ module _ (s : List ℕ) (i n : ℕ) (q : Judging s i n) where
     pub judging-malformed : reading (fieldAt s i) ≡ malformed → FieldsJudged s MalformedLine
     judging-malformed h = judging-next ∙ judge-malformed _ _ h
 
-    pub judging-link : (name : ℕ) → length (fieldAt s i) ≡ k → (reading (fieldAt s i) ≡ link (fieldAt s name)) × (name ≤ length s) → FieldsJudged s (linked (split (lineAt s next)) name (n + (k + 1)))
+    pub judging-link : (name : ℕ) → length (fieldAt s i) ≡ k → (reading (fieldAt s i) ≡ link (fieldAt s name)) × (name ≤ length s)
+        → FieldsJudged s (linked (split (lineAt s next)) name (n + (k + 1)))
     unfolding linked
     judging-link name f h = go (allIgnored (split (lineAt s next))) refl
       where
-        go : (x : Bool) → allIgnored (split (lineAt s next)) ≡ x → FieldsJudged s (pick x (Links (n + (k + 1) + size (split (lineAt s next))) name) MalformedLine)
+        go : (x : Bool) → allIgnored (split (lineAt s next)) ≡ x
+            → FieldsJudged s (pick x (Links (n + (k + 1) + size (split (lineAt s next))) name) MalformedLine)
         go true a = (judging-next ∙ judge-link _ _ _ (h .0) a, sized-on s 0 i n (q .sized) k next e f, h .1)
         go false a = judging-next ∙ judge-after _ _ _ (h .0) a
 

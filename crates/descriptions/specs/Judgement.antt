@@ -1,25 +1,17 @@
 -- What the functions that judge a line by its fields answer, by the cases of their answers.
-use Prim.Native.Nat.{ℕ, _+_, _≤_, _<_}
+use Prim.Native.Nat.{ℕ, _+_, _≤_}
 use mathlib.Core.Path.{_≡_}
 use mathlib.Core.Bool.{true, false}
-use mathlib.Core.List.{List, [], _∷_}
+use mathlib.Core.List.{List}
 use lib.ListN.{length}
 use Rattle.spec.specs.Choice.{pick}
 use Rattle.spec.specs.Lines.{lineAt}
 use Rattle.spec.specs.Fields.{split, size, lineSize, allIgnored, judge, verdict, malformedLine, noLink, linkTo}
 use Rattle.field_bounds.specs.Answers.{fieldAt}
-use Rattle.descriptions.specs.declared.Following.{Following}
-use Rattle.descriptions.specs.declared.Following.the-variants.{Nothing, Field}
 use Rattle.descriptions.specs.declared.Rest.{Rest}
 use Rattle.descriptions.specs.declared.Rest.the-variants.{Ignored, Other}
 use Rattle.descriptions.specs.declared.Judged.{Judged}
 use Rattle.descriptions.specs.declared.Judged.the-variants.{Malformed, Ends, Links}
-
--- `next_field`: the fields from a place on are none; or one of so many bytes, and those from a place on.
-abbrev pub Follows : List ℕ → ℕ → Following → Type 0
-Follows s at Nothing = split (lineAt s at) ≡ []
-Follows s at (Field n next) =
-    (split (lineAt s at) ≡ fieldAt s at ∷ split (lineAt s next)) × (length (fieldAt s at) ≡ n) × (at < next) × (next ≤ length s)
 
 -- `ignored_size`: all fields from a place on are ignored, and have that size; or not all.
 abbrev pub IgnoredSize : List ℕ → ℕ → Rest → Type 0

@@ -1,16 +1,14 @@
 // A description judged by its fields: what a line says, and its size.
 use field_bounds::AfterNames;
-use field_bounds::Piece;
 use field_bounds::after_names;
-use field_bounds::next_piece;
 use fields::FieldRead;
-use fields::read_field;
+use fields::NextField;
+use fields::next_field;
 ghost use Prim.Native.Nat.{_+_, _^_, _<_};
 ghost use mathlib.Core.Path.{_≡_};
 ghost use Rattle.spec.specs.Lines.{lineAt};
-ghost use Rattle.spec.specs.Fields.{reading, split, size as sizeOf, isIgnoredField};
-ghost use Rattle.field_bounds.specs.Answers.{fieldAt};
-ghost use Rattle.descriptions.specs.Judgement.{Follows, IgnoredSize, linked, FieldsJudged, LineJudged};
+ghost use Rattle.spec.specs.Fields.{split, size as sizeOf};
+ghost use Rattle.descriptions.specs.Judgement.{IgnoredSize, linked, FieldsJudged, LineJudged};
 
 // What a line says: it is malformed; it ends the chain, and has that size; or it has that size and links to the name at a place.
 pub enum Judged {
@@ -19,37 +17,10 @@ pub enum Judged {
     Links(usize, usize),
 }
 
-// The next field of a line, of so many bytes, with the place after it.
-enum Following {
-    Nothing,
-    Field(usize, usize),
-}
-
 // The size of the fields after a link, or that they are not all ignored.
 enum Rest {
     Ignored(usize),
     Other,
-}
-
-// The field at a place with the place after it: for a last field without a colon, the end of `s`.
-fn next_field(s: &[u8], at: usize) -> Following
-    ensures { λ r. ⌜ Follows (now (s .entry)) at r ⌝ }
-{
-    match next_piece(s, at) {
-        Piece::Nothing => Following::Nothing,
-        Piece::Last(n) => Following::Field(n, s.len()),
-        Piece::Then(n, next) => Following::Field(n, next),
-    }
-}
-
-// Whether the field at a place is ignored.
-fn is_ignored(s: &[u8], at: usize) -> bool
-    ensures { λ r. ⌜ r ≡ isIgnoredField (reading (fieldAt (now (s .entry)) at)) ⌝ }
-{
-    match read_field(s, at) {
-        FieldRead::Ignored => true,
-        _ => false,
-    }
 }
 
 // The size of the fields from a place on, if all are ignored.
@@ -59,14 +30,16 @@ fn ignored_size(s: &[u8], at: usize) -> Rest
     let mut i = at;
     let mut size = 0;
     loop {
-        let Following::Field(n, next) = next_field(s, i) else {
+        let NextField::Field(read, n, next) = next_field(s, i) else {
             return Rest::Ignored(size);
         };
-        if !is_ignored(s, i) {
-            return Rest::Other;
+        match read {
+            FieldRead::Ignored => {
+                size += n + 1;
+                i = next;
+            }
+            _ => return Rest::Other,
         }
-        size += n + 1;
-        i = next;
     }
 }
 
@@ -88,11 +61,11 @@ pub fn judge_fields(s: &[u8]) -> Judged
     let mut at = 0;
     let mut size = 0;
     loop {
-        let Following::Field(n, next) = next_field(s, at) else {
+        let NextField::Field(read, n, next) = next_field(s, at) else {
             return Judged::Ends(size);
         };
         size += n + 1;
-        match read_field(s, at) {
+        match read {
             FieldRead::Malformed => return Judged::Malformed,
             FieldRead::Link(name) => return judge_after_link(s, next, name, size),
             _ => at = next,

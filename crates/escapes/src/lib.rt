@@ -3,8 +3,9 @@ use field_bounds::field_byte;
 use lines::Step;
 use stores::put_after;
 ghost use Prim.Native.Nat.{_<_};
-ghost use Rattle.spec.specs.Strings.{plain, slash, caret, oneDigit, twoDigits};
-ghost use Rattle.escapes.specs.Steps.{TextBegins, Decodes};
+ghost use mathlib.Core.Path.{_≡_};
+ghost use Rattle.spec.specs.Strings.{escaped, plain, slash, caret, oneDigit, twoDigits};
+ghost use Rattle.escapes.specs.Steps.{TextBegins, Decodes, Measures};
 
 // The count of the bytes that a string's text stands for, or a fault in it.
 pub enum Decoding {
@@ -12,9 +13,17 @@ pub enum Decoding {
     Bad,
 }
 
-// A byte that a string's text stands for, and the place after what is written for it; the text's end; or a fault in it.
+// The count of the bytes that a string's text stands for, or a fault in it; then the place where the reader stopped, and the count of the
+// text's bytes up to there.
+pub enum Measured {
+    Good(usize, usize, usize),
+    Bad(usize, usize),
+}
+
+// A byte that a string's text stands for, with the place after what is written for it and the count of the bytes that are; the text's
+// end; or a fault in it.
 enum TextStep {
-    Byte(u8, usize),
+    Byte(u8, usize, usize),
     End,
     Bad,
 }
@@ -26,9 +35,9 @@ fn third_digit(s: &[u8], at: usize, v: u8) -> TextStep
 {
     match field_byte(s, at) {
         Step::Byte(b, n) => match b {
-            48..=55 => {
+            b'0'..=b'7' => {
                 if v < 32 {
-                    return TextStep::Byte(v * 8 + (b - 48), n);
+                    return TextStep::Byte(v * 8 + (b - b'0'), n, 4);
                 }
                 TextStep::Bad
             }
@@ -45,10 +54,27 @@ fn second_digit(s: &[u8], at: usize, v: u8) -> TextStep
 {
     match field_byte(s, at) {
         Step::Byte(b, n) => match b {
-            48..=55 => third_digit(s, n, v * 8 + (b - 48)),
+            b'0'..=b'7' => third_digit(s, n, v * 8 + (b - b'0')),
             _ => TextStep::Bad,
         },
         Step::End => TextStep::Bad,
+    }
+}
+
+// The byte for a letter after a backslash, or 256 if there is no such escape.
+fn escape_of(b: u8) -> u16
+    ensures { λ r. ⌜ r ≡ escaped b ⌝ }
+{
+    match b {
+        b'E' => 27,
+        b'n' => 10,
+        b'r' => 13,
+        b't' => 9,
+        b'b' => 8,
+        b'f' => 12,
+        b'^' => 94,
+        b'\\' => 92,
+        _ => 256,
     }
 }
 
@@ -58,16 +84,14 @@ fn after_backslash(s: &[u8], at: usize) -> TextStep
 {
     match field_byte(s, at) {
         Step::Byte(b, n) => match b {
-            69 => TextStep::Byte(27, n),
-            110 => TextStep::Byte(10, n),
-            114 => TextStep::Byte(13, n),
-            116 => TextStep::Byte(9, n),
-            98 => TextStep::Byte(8, n),
-            102 => TextStep::Byte(12, n),
-            94 => TextStep::Byte(94, n),
-            92 => TextStep::Byte(92, n),
-            48..=55 => second_digit(s, n, b - 48),
-            _ => TextStep::Bad,
+            b'0'..=b'7' => second_digit(s, n, b - b'0'),
+            _ => {
+                let v = escape_of(b);
+                if v > 255 {
+                    return TextStep::Bad;
+                }
+                TextStep::Byte(v as u8, n, 2)
+            }
         },
         Step::End => TextStep::Bad,
     }
@@ -79,8 +103,8 @@ fn after_caret(s: &[u8], at: usize) -> TextStep
 {
     match field_byte(s, at) {
         Step::Byte(b, n) => match b {
-            63 => TextStep::Byte(127, n),
-            64..=126 => TextStep::Byte(b % 32, n),
+            b'?' => TextStep::Byte(127, n, 2),
+            64..=126 => TextStep::Byte(b % 32, n, 2),
             _ => TextStep::Bad,
         },
         Step::End => TextStep::Bad,
@@ -93,17 +117,16 @@ fn text_byte(s: &[u8], at: usize) -> TextStep
 {
     match field_byte(s, at) {
         Step::Byte(b, n) => match b {
-            92 => after_backslash(s, n),
-            94 => after_caret(s, n),
-            32..=126 => TextStep::Byte(b, n),
+            b'\\' => after_backslash(s, n),
+            b'^' => after_caret(s, n),
+            32..=126 => TextStep::Byte(b, n, 1),
             _ => TextStep::Bad,
         },
         Step::End => TextStep::End,
     }
 }
 
-// Decodes the text of the field at a place to the start of `out`, and counts its bytes. What has no room is not stored: in a buffer of
-// no bytes it only counts.
+// Decodes the text of the field at a place to the start of `out`, and counts its bytes. What has no room is not stored.
 pub fn decode_text(s: &[u8], at: usize, out: &mut [u8]) -> Decoding
     ensures { λ r. ⌜ Decodes (now (s .entry)) at (now (out .entry)) (now (out .exit)) r ⌝ }
 {
@@ -111,13 +134,33 @@ pub fn decode_text(s: &[u8], at: usize, out: &mut [u8]) -> Decoding
     let mut k = 0;
     loop {
         match text_byte(s, i) {
-            TextStep::Byte(b, n) => {
+            TextStep::Byte(b, n, _) => {
                 put_after(out, 0, k, b);
                 k += 1;
                 i = n;
             }
             TextStep::End => return Decoding::Good(k),
             TextStep::Bad => return Decoding::Bad,
+        }
+    }
+}
+
+// Reads the text of the field at a place to count what it stands for, and stores nothing.
+pub fn measure_text(s: &[u8], at: usize) -> Measured
+    ensures { λ r. ⌜ Measures (now (s .entry)) at r ⌝ }
+{
+    let mut i = at;
+    let mut k: usize = 0;
+    let mut passed: usize = 0;
+    loop {
+        match text_byte(s, i) {
+            TextStep::Byte(_, n, w) => {
+                k += 1;
+                passed += w;
+                i = n;
+            }
+            TextStep::End => return Measured::Good(k, i, passed),
+            TextStep::Bad => return Measured::Bad(i, passed),
         }
     }
 }

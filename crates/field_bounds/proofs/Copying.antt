@@ -31,7 +31,8 @@ module _ (s : List ℕ) (at : ℕ) (out₀ : List ℕ) (to : ℕ) (out : List �
       record {
         few = omega (arith, q .few);
         count = omega (arith, q .count, ap length e);
-        bytes = q .bytes ∙ ap (sets out (to + k)) e ∙ ap (λ (j : ℕ). sets (set out (to + k) b) j (fieldAt s n)) next ∙ ap (λ (l : List ℕ). sets l (to + (k + 1)) (fieldAt s n)) (sym f);
+        bytes = q .bytes ∙ ap (sets out (to + k)) e ∙ ap (λ (j : ℕ). sets (set out (to + k) b) j (fieldAt s n)) next
+            ∙ ap (λ (l : List ℕ). sets l (to + (k + 1)) (fieldAt s n)) (sym f);
         kept = ap length f ∙ simp length-set (q .kept);
       }
 

@@ -1,6 +1,6 @@
 -- The bytes of a field and of a line at a place, as a reader meets them.
 -- Assumes nothing.
-use Prim.Native.Nat.{ℕ, _+_, _≤_, _<_}
+use Prim.Native.Nat.{ℕ, _+_, _<_}
 use mathlib.Core.Path.{_≡_, refl, _∙_, ap}
 use mathlib.Core.Bool.{true, false}
 use mathlib.Core.List.{List, [], _∷_}
@@ -12,7 +12,7 @@ use Rattle.spec.specs.Lists.{holds, past}
 use Rattle.spec.specs.Lines.{end, byte, textAt, lineText, lineAt}
 use Rattle.spec.proofs.TextSteps.{line-end, line-on}
 use Rattle.spec.proofs.FieldSteps.{field-nil, field-end, field-on, past-here, past-on}
-use Rattle.field_bounds.specs.Answers.{fieldAt}
+use Rattle.field_bounds.specs.Answers.{fieldAt, Passed}
 
 -- ---- the field at a place, by what the text there starts with
 
@@ -29,30 +29,33 @@ pub field-over : (s : List ℕ) (at : ℕ) → textAt s at ≡ end → fieldAt s
 unfolding lineAt
 field-over s at p = rw p field-nil
 
--- ---- the next colon of a line: what was passed up to a place is n bytes without one
-
-pub record Passed (s : List ℕ) (at i n : ℕ) : Type 0 where
-  pub onward : at ≤ i
-  pub few : n ≤ i
-  pub colon : holds 58 (lineAt s at) ≡ holds 58 (lineAt s i)
-  pub rest : past 58 (lineAt s at) ≡ past 58 (lineAt s i)
-  pub count : length (fieldAt s at) ≡ n + length (fieldAt s i)
+-- ---- the bytes passed from a place on
 
 pub passed-none : (s : List ℕ) (at : ℕ) → Passed s at at 0
-passed-none s at = record { onward = omega arith; few = omega arith; colon = refl; rest = refl; count = omega arith }
+passed-none s at = record { onward = omega arith; count = omega arith; colon = refl; rest = refl }
+
+pub passed-over : (s : List ℕ) (at i j n m : ℕ) → Passed s at i n → Passed s i j m → Passed s at j (n + m)
+passed-over s at i j n m q p = record {
+  onward = omega (arith, q .onward, p .onward);
+  count = omega (arith, q .count, p .count);
+  colon = q .colon ∙ p .colon;
+  rest = q .rest ∙ p .rest;
+}
+
+pub passed-byte : (s : List ℕ) (at b n : ℕ) → textAt s at ≡ byte b n (textAt s n) → at < n → ((b ≡ 10) ⊎ (b ≡ 58) → ⊥) → Passed s at n 1
+unfolding lineAt holds
+passed-byte s at b n p h r = record {
+  onward = omega arith;
+  count = omega (arith, ap length (field-goes s at b n p r));
+  colon = rw (p, line-on b n (textAt s n) (λ e. r (inl e)), ne-eqb b 58 (λ e. r (inr e)));
+  rest = rw p (past-on b n _ r);
+}
+
+-- ---- the next colon of a line: what was passed up to a place is n bytes without one
 
 module _ (s : List ℕ) (at i n b j : ℕ) (q : Passed s at i n) (p : textAt s i ≡ byte b j (textAt s j)) (h : i < j) where
   pub passed-on : (b ≡ 10 → ⊥) → (b ≡ 58 → ⊥) → Passed s at j (n + 1)
-  unfolding lineAt holds
-  passed-on m k =
-      let r : (b ≡ 10) ⊎ (b ≡ 58) → ⊥ = λ e. ⊎-elim m k e in
-      record {
-        onward = omega arith;
-        few = omega arith;
-        colon = q .colon ∙ rw (p, line-on b j (textAt s j) m, ne-eqb b 58 k);
-        rest = q .rest ∙ rw p (past-on b j _ r);
-        count = omega (arith, ap length (field-goes s i b j p r), q .count);
-      }
+  passed-on m k = passed-over s at i j n 1 q (passed-byte s i b j p h (λ e. ⊎-elim m k e))
 
   pub passed-colon : b ≡ 58 → (holds 58 (lineAt s at) ≡ true) × (past 58 (lineAt s at) ≡ lineAt s j) × (length (fieldAt s at) ≡ n)
   unfolding lineAt holds

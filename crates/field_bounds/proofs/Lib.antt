@@ -3,3 +3,4 @@ pub mod Pieces
 pub mod Copying
 pub mod LineBounds
 pub mod Parts
+pub mod WholeFields

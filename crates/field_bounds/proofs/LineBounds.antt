@@ -1,6 +1,6 @@
 -- A line at a place is no longer than what it is read from, and so are its fields.
 -- Assumes nothing.
-use Prim.Native.Nat.{ℕ, suc, _+_, _≤_, _<_}
+use Prim.Native.Nat.{ℕ, suc, _+_, _-_, _≤_, _<_}
 use mathlib.Core.Path.{_≡_}
 use mathlib.Core.Bool.{Bool, true, false}
 use mathlib.Core.List.{List, [], _∷_}
@@ -9,11 +9,15 @@ use native.Mathlib.Omega.{arith}
 use lib.Dec.{eqb}
 use lib.ListN.{length, drop, length-drop}
 use Rattle.spec.specs.Choice.{pick, both}
+use Rattle.spec.specs.Lists.{upto}
 use Rattle.spec.specs.Lines.{byte, join, textAt, lineText, lineAt}
+use Rattle.spec.specs.Strings.{good, plain, decode}
 use Rattle.spec.specs.Fields.{split, size}
 use Rattle.spec.proofs.TextSteps.{text-end}
 use Rattle.spec.proofs.FieldSteps.{split-nil, open-end, split-size}
+use Rattle.spec.proofs.Readings.{decode-short}
 use Rattle.spec.proofs.Tests.{pick-all}
+use Rattle.field_bounds.specs.Answers.{fieldAt, Passed}
 
 line-short : (at : ℕ) (l : List ℕ) → length (lineText (join at l)) ≤ length l
 unfolding join lineText
@@ -29,6 +33,23 @@ line-short at (b ∷ c ∷ l) = go (both (eqb b 92) (eqb c 10)) (line-short (at 
 pub line-bound : (s : List ℕ) (at : ℕ) → length (lineAt s at) ≤ length s
 unfolding lineAt textAt
 line-bound s at = omega (arith, line-short at (drop at s), length-drop at s)
+
+-- so a field has no more bytes than stand from its place on
+upto-short : (l : List ℕ) → length (upto 58 l) ≤ length l
+unfolding upto
+upto-short [] = omega arith
+upto-short (b ∷ l) = pick-all (λ (m : List ℕ). length m ≤ suc (length l)) (eqb b 58) (omega arith) (omega (arith, upto-short l))
+
+pub passed-bound : (s : List ℕ) (at i n : ℕ) → Passed s at i n → n ≤ length s - at
+unfolding lineAt textAt
+passed-bound s at i n q = omega (arith, q .count, upto-short (lineText (join at (drop at s))), line-short at (drop at s), length-drop at s)
+
+pub field-bound : (s : List ℕ) (at : ℕ) → length (fieldAt s at) ≤ length s
+field-bound s at = omega (arith, upto-short (lineAt s at), line-bound s at)
+
+-- nor is a decoded text longer
+pub text-bound : (s : List ℕ) (text : ℕ) (l : List ℕ) → decode plain (fieldAt s text) ≡ good l → length l ≤ length s
+text-bound s text l e = omega (arith, decode-short plain (fieldAt s text) l e, field-bound s text)
 
 pub open-bound : (l : List ℕ) → open-end l ≤ 1
 unfolding open-end

@@ -17,18 +17,18 @@ use Rattle.field_bounds.specs.declared.AfterNames.the-variants.{At}
 abbrev pub part : List ℕ → ℕ → List ℕ
 part db a = take (length db - a) (drop a db)
 
-module _ (db : List ℕ) (at a n : ℕ) (p : NamesPassed db at (At a n)) where
-  part-is : part db a ≡ drop a db
-  part-is =
-      let l : length (drop a db) ≤ length db - a = rw length-drop (omega arith) in
-      take-all (length db - a) (drop a db) l
+pub part-is : (db : List ℕ) (a : ℕ) → part db a ≡ drop a db
+part-is db a =
+    let l : length (drop a db) ≤ length db - a = rw length-drop (omega arith) in
+    take-all (length db - a) (drop a db) l
 
+module _ (db : List ℕ) (at a n : ℕ) (p : NamesPassed db at (At a n)) where
   pub part-at : (i : ℕ) → lineAt (part db a) i ≡ lineAt db (a + i)
-  part-at i = rw part-is (part-line db a i)
+  part-at i = rw (part-is db a) (part-line db a i)
 
   pub part-fields : split (lineAt (part db a) 0) ≡ fieldsOf (lineAt db at)
   unfolding fieldsOf
   part-fields = ap split (part-at 0 ∙ ap (lineAt db) (add-zero a) ∙ sym (p .1))
 
   pub part-inside : (name : ℕ) → name ≤ length (part db a) → a + name ≤ length db
-  part-inside name h = omega (arith, ap length part-is, length-drop a db, p .4)
+  part-inside name h = omega (arith, ap length (part-is db a), length-drop a db, p .4)

@@ -9,7 +9,7 @@ use lib.Dec.{eqb}
 use lib.ListN.{length}
 use Rattle.spec.specs.Choice.{pick, either}
 use Rattle.spec.specs.Lists.{upto, holds, past}
-use Rattle.spec.specs.Fields.{split}
+use Rattle.spec.specs.Fields.{split, fieldsOf}
 use Rattle.spec.proofs.FieldSteps.{split-first, split-nil}
 use Rattle.spec.proofs.Tests.{clash}
 
@@ -29,7 +29,9 @@ past-none (b ∷ l) h = go (eqb b 58) h (past-none l)
 
 pub piece-last : (l : List ℕ) → holds 58 l ≡ false → (length (upto 58 l) ≡ 0 → ⊥) → split l ≡ upto 58 l ∷ []
 piece-last [] h n = absurd (n (unfold upto in refl))
-piece-last (b ∷ l) h n = split-first b l ∙ ap (λ (r : List ℕ). upto 58 (b ∷ l) ∷ split r) (past-none (b ∷ l) h) ∙ ap (λ (fs : List (List ℕ)). upto 58 (b ∷ l) ∷ fs) split-nil
+piece-last (b ∷ l) h n =
+    split-first b l ∙ ap (λ (r : List ℕ). upto 58 (b ∷ l) ∷ split r) (past-none (b ∷ l) h)
+    ∙ ap (λ (fs : List (List ℕ)). upto 58 (b ∷ l) ∷ fs) split-nil
 
 pub piece-none : (l : List ℕ) → holds 58 l ≡ false → length (upto 58 l) ≡ 0 → l ≡ []
 unfolding holds upto
@@ -39,3 +41,11 @@ piece-none (b ∷ l) h e = go (eqb b 58) h e
     go : (x : Bool) → either x (holds 58 l) ≡ false → length (pick x [] (b ∷ upto 58 l)) ≡ 0 → b ∷ l ≡ []
     go true q z = clash q
     go false q z = absurd (omega arith)
+
+-- A line that has no colon has no fields.
+pub no-fields : (l : List ℕ) → holds 58 l ≡ false → fieldsOf l ≡ []
+unfolding fieldsOf
+no-fields l e = rw (past-none l e, split-nil)
+
+pub fields-none : (l : List ℕ) → holds 58 l ≡ false → length (upto 58 l) ≡ 0 → split l ≡ []
+fields-none l h e = ap split (piece-none l h e) ∙ split-nil

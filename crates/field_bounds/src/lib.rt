@@ -6,13 +6,13 @@ use stores::put_after;
 ghost use mathlib.Core.Path.{_≡_};
 ghost use lib.ListN.{length};
 ghost use lib.Seq.{sets};
-ghost use Rattle.field_bounds.specs.Answers.{fieldAt, FieldStep, ColonFound, Pieced, NamesPassed};
+ghost use Rattle.field_bounds.specs.Answers.{fieldAt, FieldStep, ColonFound, Bounded, NamesPassed};
 
-// The fields from a place on: none; one of so many bytes, the last; or one of so many bytes, and the next from a place on.
-pub enum Piece {
+// The field at a place: none is left; or one of so many joined bytes, with the place behind it: behind its colon, or the end of `s` for a
+// last one.
+pub enum Bounds {
     Nothing,
-    Last(usize),
-    Then(usize, usize),
+    Field(usize, usize),
 }
 
 // Where the fields of a line start, and how many bytes its names have.
@@ -34,7 +34,7 @@ pub fn field_byte(s: &[u8], at: usize) -> Step
 {
     match peek(s, at) {
         Step::Byte(b, n) => match b {
-            10 | 58 => Step::End,
+            b'\n' | b':' => Step::End,
             _ => Step::Byte(b, n),
         },
         Step::End => Step::End,
@@ -50,8 +50,8 @@ fn find_colon(s: &[u8], at: usize) -> Colon
     loop {
         match peek(s, i) {
             Step::Byte(b, j) => match b {
-                10 => return Colon::Missing(n),
-                58 => return Colon::After(n, j),
+                b'\n' => return Colon::Missing(n),
+                b':' => return Colon::After(n, j),
                 _ => {
                     n += 1;
                     i = j;
@@ -63,16 +63,16 @@ fn find_colon(s: &[u8], at: usize) -> Colon
 }
 
 // "Each ends at a colon, always, and text after the last colon is a field unless empty."
-pub fn next_piece(s: &[u8], at: usize) -> Piece
-    ensures { λ r. ⌜ Pieced (now (s .entry)) at r ⌝ }
+pub fn next_bounds(s: &[u8], at: usize) -> Bounds
+    ensures { λ r. ⌜ Bounded (now (s .entry)) at r ⌝ }
 {
     match find_colon(s, at) {
-        Colon::After(n, next) => Piece::Then(n, next),
-        Colon::Missing(n) => {
-            if n == 0 {
-                return Piece::Nothing;
+        Colon::After(length, next) => Bounds::Field(length, next),
+        Colon::Missing(length) => {
+            if length == 0 {
+                return Bounds::Nothing;
             }
-            Piece::Last(n)
+            Bounds::Field(length, s.len())
         }
     }
 }

@@ -12,12 +12,9 @@ use lib.ListN.{length}
 use Rattle.spec.specs.Choice.{pick, both, either}
 use Rattle.spec.specs.Lines.{blank}
 use Rattle.spec.specs.Refusals.{goodName, idByte, isTc, idBytes}
-use Rattle.spec.specs.Fields.{malformed, ignored, link, contentReading, linkReading, namedReading, reading}
+use Rattle.spec.specs.Fields.{Reading, malformed, ignored, link, contentReading, linkReading, namedReading, reading}
 use Rattle.spec.proofs.Tests.{both-false, clash}
-use Rattle.field_bounds.specs.Answers.{fieldAt}
-use Rattle.fields.specs.Readings.{ReadAs, Reads, starts, otherReading, nameReading}
-use Rattle.fields.specs.declared.FieldRead.{FieldRead}
-use Rattle.fields.specs.declared.FieldRead.the-variants.{Malformed, Ignored, Link, Cancel, Flag, Number, String}
+use Rattle.fields.specs.Readings.{starts, otherReading, nameReading}
 use Rattle.fields.proofs.Names.{id-outside, id-first, blank-next, blank-stops}
 
 -- ---- after the two name bytes
@@ -45,13 +42,17 @@ module _ (a b : ℕ) (l : List ℕ) where
 -- ---- a link
 
 module _ (l : List ℕ) where
-  pub link-good : goodName l ≡ true → nameReading (116 ∷ 99 ∷ 61 ∷ l) ≡ link l
-  unfolding nameReading namedReading isTc linkReading
+  pub link-good : goodName l ≡ true → linkReading (61 ∷ l) ≡ link l
+  unfolding linkReading
   link-good e = rw e
 
-  pub link-bad : goodName l ≡ false → nameReading (116 ∷ 99 ∷ 61 ∷ l) ≡ malformed
-  unfolding nameReading namedReading isTc linkReading
+  pub link-bad : goodName l ≡ false → linkReading (61 ∷ l) ≡ malformed
+  unfolding linkReading
   link-bad e = rw e
+
+  pub name-tc : nameReading (116 ∷ 99 ∷ 61 ∷ l) ≡ linkReading (61 ∷ l)
+  unfolding nameReading namedReading isTc
+  name-tc = refl
 
 -- a field named `tc` that is no link is malformed, by either definition
 tc-malformed : (l : List ℕ) → starts (61 ∷ []) l ≡ false → linkReading l ≡ malformed
@@ -85,15 +86,6 @@ no-link (a ∷ b ∷ l) e = go (eqb a 116) refl (eqb b 99) refl e
 
 -- ---- the first byte
 
-pub field-read : (s : List ℕ) (at : ℕ) (r : FieldRead) → ReadAs s (reading (fieldAt s at)) r → Reads s at r
-field-read s at Malformed h = h
-field-read s at Ignored h = h
-field-read s at (Link name) h = h
-field-read s at (Cancel a b) h = h
-field-read s at (Flag a b) h = h
-field-read s at (Number a b v) h = h
-field-read s at (String a b text n) h = h
-
 module _ (a : ℕ) (l : List ℕ) where
   pub reading-dot : a ≡ 46 → reading (a ∷ l) ≡ ignored
   unfolding reading
@@ -108,10 +100,6 @@ module _ (a : ℕ) (l : List ℕ) where
   reading-named h k = rw (blank-stops a l h, ne-eqb a 46 k)
 
   module _ (e : (a ≡ 9) ⊎ (a ≡ 32)) where
-    pub reading-blank : blank l ≡ true → reading (a ∷ l) ≡ ignored
-    unfolding reading
-    reading-blank h = rw (blank-next a l e, h)
-
     blank-low : a ≤ 32
     blank-low = ⊎-elim (λ z. omega arith) (λ z. omega arith) e
 
@@ -124,6 +112,10 @@ module _ (a : ℕ) (l : List ℕ) where
     blank-malformed [] = refl
     blank-malformed (b ∷ m) = rw (blank-no-tc b, id-first a b (id-outside a (λ w. omega (arith, blank-low, w .0))))
 
-    pub reading-starts-blank : blank l ≡ false → reading (a ∷ l) ≡ malformed
+    pub reading-blank : reading (a ∷ l) ≡ pick (blank l) ignored malformed
     unfolding reading
-    reading-starts-blank h = rw (blank-next a l e, h, ne-eqb a 46 (omega (arith, blank-low))) (blank-malformed l)
+    reading-blank = rw (blank-next a l e, ne-eqb a 46 (omega (arith, blank-low)), blank-malformed l) (go (blank l))
+      where
+        go : (x : Bool) → pick (either x false) ignored malformed ≡ pick x ignored malformed
+        go true = refl
+        go false = refl

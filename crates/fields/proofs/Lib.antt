@@ -1,4 +1,4 @@
 pub mod Names
-pub mod Starting
 pub mod Numbers
 pub mod Contents
+pub mod Starting

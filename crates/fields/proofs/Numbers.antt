@@ -15,7 +15,8 @@ use Rattle.spec.specs.Digits.{areDigits, valueFrom}
 use Rattle.spec.specs.Fields.{numberBase, numberValue, goodNumber}
 use Rattle.spec.proofs.DigitBytes.{digit-is, digit-not}
 use Rattle.spec.proofs.Tests.{both-false}
-use Rattle.field_bounds.specs.Answers.{fieldAt}
+use Rattle.field_bounds.specs.Answers.{fieldAt, Passed}
+use Rattle.field_bounds.proofs.FieldBytes.{passed-none, passed-over}
 
 -- "read as decimal"
 decimal : (l : List ℕ) → numberBase l ≡ 10
@@ -26,13 +27,13 @@ decimal l = refl
 pub record Counted (s : List ℕ) (at i k v : ℕ) : Type 0 where
   pub few : k ≤ 6
   pub small : v < 10 ^ k
-  pub count : length (fieldAt s at) ≡ k + length (fieldAt s i)
+  pub passed : Passed s at i k
   pub digits : areDigits (numberBase (fieldAt s at)) (fieldAt s at) ≡ areDigits (numberBase (fieldAt s at)) (fieldAt s i)
   pub worth : numberValue (fieldAt s at) ≡ valueFrom (numberBase (fieldAt s at)) v (fieldAt s i)
 
 pub counted-none : (s : List ℕ) (at : ℕ) → Counted s at at 0 0
 unfolding numberValue
-counted-none s at = record { few = omega arith; small = omega arith; count = omega arith; digits = refl; worth = refl }
+counted-none s at = record { few = omega arith; small = omega arith; passed = passed-none s at; digits = refl; worth = refl }
 
 -- ---- what is no number
 
@@ -61,20 +62,20 @@ module _ (s : List ℕ) (at i k v : ℕ) (q : Counted s at i k v) where
 
   module _ (b n : ℕ) (e : fieldAt s i ≡ b ∷ fieldAt s n) where
     pub counted-long : 6 ≤ k → goodNumber (fieldAt s at) ≡ false
-    counted-long h = bad-length (fieldAt s at) (long (fieldAt s at) (omega (arith, q .count, ap length e)))
+    counted-long h = bad-length (fieldAt s at) (long (fieldAt s at) (omega (arith, q .passed .count, ap length e)))
 
     pub counted-not : ((48 ≤ b) × (b ≤ 57) → ⊥) → goodNumber (fieldAt s at) ≡ false
     unfolding areDigits
     counted-not h = bad-digit (fieldAt s at) (q .digits ∙ rw (e, decimal (fieldAt s at), digit-not 10 b (λ w. h (w .0, omega (arith, w .1)))))
 
-    pub counted-on : 48 ≤ b → b ≤ 57 → k < 6 → Counted s at n (k + 1) (v * 10 + (b - 48))
+    pub counted-on : Passed s i n 1 → 48 ≤ b → b ≤ 57 → k < 6 → Counted s at n (k + 1) (v * 10 + (b - 48))
     unfolding areDigits valueFrom
-    counted-on low high h =
+    counted-on p low high h =
         let more : 10 ^ (k + 1) ≡ 10 ^ k * 10 = rw add-one (pow-suc 10 k) in
         record {
           few = omega arith;
           small = omega (arith, q .small);
-          count = omega (arith, q .count, ap length e);
+          passed = passed-over s at i n k 1 (q .passed) p;
           digits = q .digits ∙ rw (e, decimal (fieldAt s at), digit-is 10 b low (omega arith));
           worth = q .worth ∙ rw (e, decimal (fieldAt s at));
         }
@@ -86,7 +87,7 @@ module _ (s : List ℕ) (at i k v : ℕ) (q : Counted s at i k v) where
 
     pub counted-empty : k ≡ 0 → goodNumber (fieldAt s at) ≡ false
     counted-empty h =
-        let none : length (fieldAt s at) ≡ 0 = omega (arith, q .count, ap length e) in
+        let none : length (fieldAt s at) ≡ 0 = omega (arith, q .passed .count, ap length e) in
         bad-length (fieldAt s at) (rw none)
 
     pub counted-large : 65535 < v → goodNumber (fieldAt s at) ≡ false
@@ -96,5 +97,5 @@ module _ (s : List ℕ) (at i k v : ℕ) (q : Counted s at i k v) where
     unfolding goodNumber areDigits
     counted-good h m =
         let all : areDigits (numberBase (fieldAt s at)) (fieldAt s at) ≡ true = q .digits ∙ rw e in
-        let length-is : length (fieldAt s at) ≡ k = omega (arith, q .count, ap length e) in
+        let length-is : length (fieldAt s at) ≡ k = omega (arith, q .passed .count, ap length e) in
         (rw (all, counted-value, length-is, le-leb v 65535 m, le-leb k 6 (q .few), le-leb 1 k (omega arith)), counted-value)

@@ -7,11 +7,15 @@ use lib.Dec.{eqb}
 use lib.ListN.{length}
 use Rattle.spec.specs.Choice.{pick, both}
 use Rattle.spec.specs.Refusals.{idBytes}
+use Rattle.spec.specs.Lines.{lineAt}
 use Rattle.spec.specs.Strings.{good, plain, decode}
-use Rattle.spec.specs.Fields.{goodNumber, numberValue, Reading, malformed, ignored, link, capability, cancel, flag, number, string, contentReading, namedReading, reading}
-use Rattle.field_bounds.specs.Answers.{fieldAt}
+use Rattle.spec.specs.Fields.{split, goodNumber, numberValue, Reading, malformed, ignored, link, capability, cancel, flag, number, string, contentReading, namedReading, reading}
+use Rattle.field_bounds.specs.Answers.{fieldAt, Passed}
 use Rattle.fields.specs.declared.FieldRead.{FieldRead}
 use Rattle.fields.specs.declared.FieldRead.the-variants.{Malformed, Ignored, Link, Cancel, Flag, Number, String}
+use Rattle.fields.specs.declared.NextField.{NextField}
+use Rattle.fields.specs.declared.NextField.the-variants.{Nothing, Field}
+use Rattle.fields.specs.declared.Stopped.{Stopped}
 use Rattle.fields.specs.declared.AfterStart.{AfterStart}
 use Rattle.fields.specs.declared.AfterStart.the-variants.{At, Other}
 use Rattle.fields.specs.declared.Digits.{Digits}
@@ -25,13 +29,14 @@ starts (a ∷ start) (b ∷ l) = both (eqb b a) (starts start l)
 
 -- `after_start`: the field at a place is the start and then the field at the place that it answers; or it starts otherwise.
 abbrev pub Starts : List ℕ → ℕ → List ℕ → AfterStart → Type 0
-Starts s at start (At n) = (fieldAt s at ≡ start ++ fieldAt s n) × (0 < length start → n ≤ length s)
+Starts s at start (At n) = (fieldAt s at ≡ start ++ fieldAt s n) × Passed s at n (length start)
 Starts s at start Other = starts start (fieldAt s at) ≡ false
 
--- `read_digits`: the field at a place is a number's digits, with their value, or not.
+-- `read_digits`: the field at a place is a number's digits, with their value, or not; and so many bytes of it are passed up to the place
+-- where the reader stopped.
 abbrev pub Numbers : List ℕ → ℕ → Digits → Type 0
-Numbers s at (Value v) = (goodNumber (fieldAt s at) ≡ true) × (numberValue (fieldAt s at) ≡ v)
-Numbers s at Bad = goodNumber (fieldAt s at) ≡ false
+Numbers s at (Value v i k) = (goodNumber (fieldAt s at) ≡ true) × (numberValue (fieldAt s at) ≡ v) × Passed s at i k × (k ≤ 6)
+Numbers s at (Bad i k) = (goodNumber (fieldAt s at) ≡ false) × Passed s at i k × (k ≤ 6)
 
 -- The readers of parts of a field: a reading, with its link or its text at a place of `s`.
 abbrev pub ReadAs : List ℕ → Reading → FieldRead → Type 0
@@ -42,6 +47,11 @@ ReadAs s read (Cancel a b) = read ≡ capability a b cancel
 ReadAs s read (Flag a b) = read ≡ capability a b flag
 ReadAs s read (Number a b v) = read ≡ capability a b (number v)
 ReadAs s read (String a b text n) = (l : List ℕ) × (read ≡ capability a b (string l)) × (decode plain (fieldAt s text) ≡ good l) × (length l ≡ n)
+
+-- The readers of parts of a field, from a place behind its first `k` bytes on: what the field is read as, and the place where they stopped,
+-- behind so many of its bytes.
+abbrev pub Stops : List ℕ → ℕ → ℕ → Reading → Stopped → Type 0
+Stops s at k read r = ReadAs s read (r .0) × ((start : ℕ) → Passed s start at k → Passed s start (r .1) (r .2))
 
 -- `read_capability`: a field that is no link.
 unfoldable pub otherReading : List ℕ → Reading
@@ -54,14 +64,17 @@ unfoldable pub nameReading : List ℕ → Reading
 nameReading [] = malformed
 nameReading (a ∷ l) = namedReading a l
 
--- `read_field`: what the field at a place is read as. A link has the place of its name; a string the place of its text, and the count of
+-- What the field at a place is read as. A link has the place of its name; a string the place of its text, and the count of
 -- its decoded bytes.
 abbrev pub Reads : List ℕ → ℕ → FieldRead → Type 0
-Reads s at Malformed = reading (fieldAt s at) ≡ malformed
-Reads s at Ignored = reading (fieldAt s at) ≡ ignored
-Reads s at (Link name) = (reading (fieldAt s at) ≡ link (fieldAt s name)) × (name ≤ length s)
-Reads s at (Cancel a b) = reading (fieldAt s at) ≡ capability a b cancel
-Reads s at (Flag a b) = reading (fieldAt s at) ≡ capability a b flag
-Reads s at (Number a b v) = reading (fieldAt s at) ≡ capability a b (number v)
-Reads s at (String a b text n) =
-    (l : List ℕ) × (reading (fieldAt s at) ≡ capability a b (string l)) × (decode plain (fieldAt s text) ≡ good l) × (length l ≡ n)
+Reads s at read = ReadAs s (reading (fieldAt s at)) read
+
+-- `read_from`: the same, with the place where the reader stopped, behind so many of the field's bytes.
+abbrev pub ReadUpTo : List ℕ → ℕ → Stopped → Type 0
+ReadUpTo s at r = Reads s at (r .0) × Passed s at (r .1) (r .2)
+
+-- `next_field`: the fields from a place on are none; or one that is read so, of so many bytes, and those from a place on.
+abbrev pub FieldsFrom : List ℕ → ℕ → NextField → Type 0
+FieldsFrom s at Nothing = split (lineAt s at) ≡ []
+FieldsFrom s at (Field read n next) =
+    (split (lineAt s at) ≡ fieldAt s at ∷ split (lineAt s next)) × Reads s at read × (length (fieldAt s at) ≡ n) × (at < next) × (next ≤ length s)

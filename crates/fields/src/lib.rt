@@ -1,15 +1,28 @@
 // What a field is read as: one field read at a place of the part of the database that starts after a line's names.
-use escapes::Decoding;
-use escapes::decode_text;
+use escapes::Measured;
+use escapes::measure_text;
+use field_bounds::Bounds;
 use field_bounds::field_byte;
+use field_bounds::next_bounds;
 use lines::Step;
+ghost use Prim.Native.Nat.{_≤_};
 ghost use mathlib.Core.Path.{_≡_};
 ghost use mathlib.Core.List.{_∷_};
+ghost use Rattle.spec.specs.Choice.{pick};
 ghost use Rattle.spec.specs.Lines.{blank};
-ghost use Rattle.spec.specs.Refusals.{nameByte, goodName, idByte, idBytes};
-ghost use Rattle.spec.specs.Fields.{contentReading};
+ghost use Rattle.spec.specs.Refusals.{nameByte, idByte, idBytes};
+ghost use Rattle.spec.specs.Fields.{ignored, malformed, contentReading, linkReading};
 ghost use Rattle.field_bounds.specs.Answers.{fieldAt};
-ghost use Rattle.fields.specs.Readings.{Starts, Numbers, ReadAs, Reads, otherReading, nameReading};
+ghost use Rattle.fields.specs.Readings.{Starts, otherReading, nameReading, Numbers, Stops, Reads, ReadUpTo, FieldsFrom};
+
+// The most bytes of a name.
+const NAME_LIMIT: usize = 64;
+
+// The most digits of a number.
+const DIGIT_LIMIT: usize = 6;
+
+// The greatest number.
+const NUMBER_LIMIT: u32 = 65535;
 
 // What a field is read as: a link with the place of its name; a capability by the two bytes of its name, with its number, or with the
 // place of its text and the count of its decoded bytes.
@@ -23,30 +36,44 @@ pub enum FieldRead {
     String(u8, u8, usize, usize),
 }
 
+// The fields from a place on: none; or one that is read so, of so many joined bytes, with the place behind it.
+pub enum NextField {
+    Nothing,
+    Field(FieldRead, usize, usize),
+}
+
+// What a field is read as, the place where the reader stopped, and how many of the field's bytes stand before that place.
+struct Stopped(FieldRead, usize, usize);
+
 // The place after the bytes that a field starts with, or that it starts otherwise.
 enum AfterStart {
     At(usize),
     Other,
 }
 
-// The value of a number's digits, or a fault in them.
+// The value of a number's digits, or a fault in them; then the place where the reader stopped, and how many bytes it passed.
 enum Digits {
-    Value(u32),
-    Bad,
+    Value(u32, usize, usize),
+    Bad(usize, usize),
 }
 
-// Whether the field at a place has only spaces and tabs.
-fn is_blank_field(s: &[u8], at: usize) -> bool
-    ensures { λ r. ⌜ r ≡ blank (fieldAt (now (s .entry)) at) ⌝ }
+// The rest of a field that starts with a space or a tab: "Only spaces and tabs: ignored".
+fn read_blanks(s: &[u8], at: usize) -> Stopped
+    requires { ⌜ 1 ≤ at ⌝ }
+    ensures { λ r. ⌜ Stops (now (s .entry)) at 1 (pick (blank (fieldAt (now (s .entry)) at)) ignored malformed) r ⌝ }
 {
     let mut i = at;
+    let mut passed = 1;
     loop {
         match field_byte(s, i) {
             Step::Byte(b, n) => match b {
-                9 | 32 => i = n,
-                _ => return false,
+                b'\t' | b' ' => {
+                    passed += 1;
+                    i = n;
+                }
+                _ => return Stopped(FieldRead::Malformed, i, passed),
             },
-            Step::End => return true,
+            Step::End => return Stopped(FieldRead::Ignored, i, passed),
         }
     }
 }
@@ -77,31 +104,36 @@ pub fn is_name_byte(b: u8) -> bool
     ensures { λ r. ⌜ r ≡ nameByte b ⌝ }
 {
     match b {
-        58 | 92 | 124 => false,
+        b':' | b'\\' | b'|' => false,
         32..=126 => true,
         _ => false,
     }
 }
 
-// Whether the field at a place is a name as in refusal 1.
-fn is_name(s: &[u8], at: usize) -> bool
-    ensures { λ r. ⌜ r ≡ goodName (fieldAt (now (s .entry)) at) ⌝ }
+// The name of a link, after `tc=`: "a name as in refusal 1".
+fn read_link_name(s: &[u8], at: usize) -> Stopped
+    ensures { λ r. ⌜ Stops (now (s .entry)) at 3 (linkReading (61 ∷ fieldAt (now (s .entry)) at)) r ⌝ }
 {
     let mut i = at;
     let mut k: usize = 0;
     loop {
         match field_byte(s, i) {
             Step::Byte(b, n) => {
-                if k == 64 {
-                    return false;
+                if k == NAME_LIMIT {
+                    return Stopped(FieldRead::Malformed, i, 3 + k);
                 }
                 if !is_name_byte(b) {
-                    return false;
+                    return Stopped(FieldRead::Malformed, i, 3 + k);
                 }
                 k += 1;
                 i = n;
             }
-            Step::End => return k > 0,
+            Step::End => {
+                if k == 0 {
+                    return Stopped(FieldRead::Malformed, i, 3 + k);
+                }
+                return Stopped(FieldRead::Link(at), i, 3 + k);
+            }
         }
     }
 }
@@ -111,7 +143,7 @@ fn is_id_byte(b: u8) -> bool
     ensures { λ r. ⌜ r ≡ idByte b ⌝ }
 {
     match b {
-        58 | 92 => false,
+        b':' | b'\\' => false,
         33..=126 => true,
         _ => false,
     }
@@ -128,8 +160,8 @@ pub fn is_id(a: u8, b: u8) -> bool
         return false;
     }
     match a {
-        46 => false,
-        116 => b != 99,
+        b'.' => false,
+        b't' => b != b'c',
         _ => true,
     }
 }
@@ -144,26 +176,26 @@ fn read_digits(s: &[u8], at: usize) -> Digits
     loop {
         match field_byte(s, i) {
             Step::Byte(b, n) => {
-                if k == 6 {
-                    return Digits::Bad;
+                if k == DIGIT_LIMIT {
+                    return Digits::Bad(i, k);
                 }
                 match b {
-                    48..=57 => {
-                        v = v * 10 + wide(b - 48);
+                    b'0'..=b'9' => {
+                        v = v * 10 + wide(b - b'0');
                         k += 1;
                         i = n;
                     }
-                    _ => return Digits::Bad,
+                    _ => return Digits::Bad(i, k),
                 }
             }
             Step::End => {
                 if k == 0 {
-                    return Digits::Bad;
+                    return Digits::Bad(i, k);
                 }
-                if v > 65535 {
-                    return Digits::Bad;
+                if v > NUMBER_LIMIT {
+                    return Digits::Bad(i, k);
                 }
-                return Digits::Value(v);
+                return Digits::Value(v, i, k);
             }
         }
     }
@@ -176,98 +208,105 @@ fn wide(b: u8) -> u32
     b as u32
 }
 
-// What stands after the two name bytes: "nothing (flag); `#` and digits (number); `=` and a text (string); `@` and nothing (cancel)".
-fn read_content(s: &[u8], at: usize, a: u8, b: u8) -> FieldRead
-    ensures { λ r. ⌜ ReadAs (now (s .entry)) (contentReading a b (fieldAt (now (s .entry)) at)) r ⌝ }
-{
-    match field_byte(s, at) {
-        Step::Byte(c, n) => match c {
-            35 => read_number(s, n, a, b),
-            61 => read_string(s, n, a, b),
-            64 => read_cancel(s, n, a, b),
-            _ => FieldRead::Malformed,
-        },
-        Step::End => FieldRead::Flag(a, b),
-    }
-}
-
 // "`#` and 1 to 6 decimal digits (number)."
-fn read_number(s: &[u8], at: usize, a: u8, b: u8) -> FieldRead
-    ensures { λ r. ⌜ ReadAs (now (s .entry)) (contentReading a b (35 ∷ fieldAt (now (s .entry)) at)) r ⌝ }
+fn read_number(s: &[u8], at: usize, a: u8, b: u8) -> Stopped
+    ensures { λ r. ⌜ Stops (now (s .entry)) at 3 (contentReading a b (35 ∷ fieldAt (now (s .entry)) at)) r ⌝ }
 {
     match read_digits(s, at) {
-        Digits::Value(v) => FieldRead::Number(a, b, v),
-        Digits::Bad => FieldRead::Malformed,
+        Digits::Value(v, i, k) => Stopped(FieldRead::Number(a, b, v), i, 3 + k),
+        Digits::Bad(i, k) => Stopped(FieldRead::Malformed, i, 3 + k),
     }
 }
 
-// "`=` and a text (string)": the text is decoded to no buffer, only to judge and count it.
-fn read_string(s: &[u8], at: usize, a: u8, b: u8) -> FieldRead
-    ensures { λ r. ⌜ ReadAs (now (s .entry)) (contentReading a b (61 ∷ fieldAt (now (s .entry)) at)) r ⌝ }
+// "`=` and a text (string)": the text is only judged and counted.
+fn read_string(s: &[u8], at: usize, a: u8, b: u8) -> Stopped
+    requires { ⌜ 3 ≤ at ⌝ }
+    ensures { λ r. ⌜ Stops (now (s .entry)) at 3 (contentReading a b (61 ∷ fieldAt (now (s .entry)) at)) r ⌝ }
 {
-    let mut nothing = [0u8; 0];
-    match decode_text(s, at, &mut nothing) {
-        Decoding::Good(n) => FieldRead::String(a, b, at, n),
-        Decoding::Bad => FieldRead::Malformed,
+    match measure_text(s, at) {
+        Measured::Good(n, i, k) => Stopped(FieldRead::String(a, b, at, n), i, 3 + k),
+        Measured::Bad(i, k) => Stopped(FieldRead::Malformed, i, 3 + k),
     }
 }
 
 // "`@` and nothing (cancel)."
-fn read_cancel(s: &[u8], at: usize, a: u8, b: u8) -> FieldRead
-    ensures { λ r. ⌜ ReadAs (now (s .entry)) (contentReading a b (64 ∷ fieldAt (now (s .entry)) at)) r ⌝ }
+fn read_cancel(s: &[u8], at: usize, a: u8, b: u8) -> Stopped
+    ensures { λ r. ⌜ Stops (now (s .entry)) at 3 (contentReading a b (64 ∷ fieldAt (now (s .entry)) at)) r ⌝ }
 {
     match field_byte(s, at) {
-        Step::Byte(_, _) => FieldRead::Malformed,
-        Step::End => FieldRead::Cancel(a, b),
+        Step::Byte(_, n) => Stopped(FieldRead::Malformed, n, 4),
+        Step::End => Stopped(FieldRead::Cancel(a, b), at, 3),
+    }
+}
+
+// What stands after the two name bytes: "nothing (flag); `#` and digits (number); `=` and a text (string); `@` and nothing (cancel)".
+fn read_content(s: &[u8], at: usize, a: u8, b: u8) -> Stopped
+    requires { ⌜ 2 ≤ at ⌝ }
+    ensures { λ r. ⌜ Stops (now (s .entry)) at 2 (contentReading a b (fieldAt (now (s .entry)) at)) r ⌝ }
+{
+    match field_byte(s, at) {
+        Step::Byte(c, n) => match c {
+            b'#' => read_number(s, n, a, b),
+            b'=' => read_string(s, n, a, b),
+            b'@' => read_cancel(s, n, a, b),
+            _ => Stopped(FieldRead::Malformed, n, 3),
+        },
+        Step::End => Stopped(FieldRead::Flag(a, b), at, 2),
     }
 }
 
 // A field that is no link: "two name bytes as in refusal 2", and what follows them.
-fn read_capability(s: &[u8], at: usize) -> FieldRead
-    ensures { λ r. ⌜ ReadAs (now (s .entry)) (otherReading (fieldAt (now (s .entry)) at)) r ⌝ }
+fn read_capability(s: &[u8], at: usize) -> Stopped
+    ensures { λ r. ⌜ Stops (now (s .entry)) at 0 (otherReading (fieldAt (now (s .entry)) at)) r ⌝ }
 {
     let Step::Byte(a, i) = field_byte(s, at) else {
-        return FieldRead::Malformed;
+        return Stopped(FieldRead::Malformed, at, 0);
     };
     let Step::Byte(b, j) = field_byte(s, i) else {
-        return FieldRead::Malformed;
+        return Stopped(FieldRead::Malformed, i, 1);
     };
     if !is_id(a, b) {
-        return FieldRead::Malformed;
+        return Stopped(FieldRead::Malformed, j, 2);
     }
     read_content(s, j, a, b)
 }
 
 // A field that is not ignored: "a link is a field that starts with the three bytes `tc=`, followed by a name as in refusal 1".
-fn read_named(s: &[u8], at: usize) -> FieldRead
-    ensures { λ r. ⌜ ReadAs (now (s .entry)) (nameReading (fieldAt (now (s .entry)) at)) r ⌝ }
+fn read_named(s: &[u8], at: usize) -> Stopped
+    ensures { λ r. ⌜ Stops (now (s .entry)) at 0 (nameReading (fieldAt (now (s .entry)) at)) r ⌝ }
 {
     match after_start(s, at, b"tc=") {
-        AfterStart::At(n) => {
-            if is_name(s, n) {
-                return FieldRead::Link(n);
-            }
-            FieldRead::Malformed
-        }
+        AfterStart::At(n) => read_link_name(s, n),
         AfterStart::Other => read_capability(s, at),
     }
 }
 
-// "Only spaces and tabs, or empty: ignored. First byte `.`: ignored."
-pub fn read_field(s: &[u8], at: usize) -> FieldRead
-    ensures { λ r. ⌜ Reads (now (s .entry)) at r ⌝ }
+// The field at a place, up to where its reading is known: "Only spaces and tabs, or empty: ignored. First byte `.`: ignored."
+fn read_from(s: &[u8], at: usize) -> Stopped
+    ensures { λ r. ⌜ ReadUpTo (now (s .entry)) at r ⌝ }
 {
     match field_byte(s, at) {
         Step::Byte(a, n) => match a {
-            9 | 32 => {
-                if is_blank_field(s, n) {
-                    return FieldRead::Ignored;
-                }
-                FieldRead::Malformed
-            }
-            46 => FieldRead::Ignored,
+            b'\t' | b' ' => read_blanks(s, n),
+            b'.' => Stopped(FieldRead::Ignored, n, 1),
             _ => read_named(s, at),
         },
-        Step::End => FieldRead::Ignored,
+        Step::End => Stopped(FieldRead::Ignored, at, 0),
+    }
+}
+
+// The field at a place and the place behind it. Its bytes are read once: its end is looked for from where its reader stopped.
+pub fn next_field(s: &[u8], at: usize) -> NextField
+    ensures { λ r. ⌜ FieldsFrom (now (s .entry)) at r ⌝ }
+{
+    let Stopped(read, i, passed) = read_from(s, at);
+    match next_bounds(s, i) {
+        Bounds::Field(n, next) => NextField::Field(read, passed + n, next),
+        Bounds::Nothing => {
+            if passed == 0 {
+                return NextField::Nothing;
+            }
+            NextField::Field(read, passed, s.len())
+        }
     }
 }

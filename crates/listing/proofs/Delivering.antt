@@ -2,15 +2,18 @@
 -- Assumes nothing.
 use Prim.Native.Nat.{ℕ, zero, suc, _+_, _/_, _≤_, _<_}
 use mathlib.Core.Path.{_≡_, refl, _∙_, ap, sym}
+use mathlib.Core.Bool.{true, false}
 use mathlib.Core.List.{List, [], _∷_, _++_, append-assoc}
 use native.Mathlib.Omega.{arith}
+use borrow.Author.Tests.{leb-true, leb-false, le-leb}
+use lib.Dec.{leb}
 use lib.ListN.{length, take, getD, set, length-append}
 use lib.Seq.{sets}
 use Rattle.spec.specs.Lines.{lineAt}
 use Rattle.spec.specs.Fields.{namesOf, withColons}
 use Rattle.spec.specs.Chain.{Field, Terminal, refused, texts}
 use Rattle.spec.specs.Lookup.{winning}
-use Rattle.spec.specs.Listing.{records, listFor, flatText, flatFor}
+use Rattle.spec.specs.Listing.{records, listFor, flatText, flatFor, mostFlatBytes, Bounded}
 use Rattle.spec.specs.declared.Written.the-variants.{Count, Refused}
 use Rattle.spec.specs.declared.Refusal.{Refusal}
 use Rattle.spec.specs.declared.Refusal.the-variants.{NoRoom}
@@ -25,25 +28,33 @@ use Rattle.listing.proofs.Passing.{written-records, written-texts}
 
 -- bytes that were stored from the start on, or that do not fit
 module _ (bytes : List ℕ) (n : ℕ) (out : List ℕ) where
-  pub put-refused : length out < length bytes → Put bytes n out (Refused NoRoom) out
+  put-refused : length out < length bytes → Put bytes n out (Refused NoRoom) out
   put-refused h = let p = put-full bytes n out h in (rw p, rw p)
 
-  pub put-stored : (out′ : List ℕ) → length bytes ≤ length out → out′ ≡ sets out 0 bytes → Put bytes n out (Count n) out′
+  put-stored : (out′ : List ℕ) → length bytes ≤ length out → out′ ≡ sets out 0 bytes → Put bytes n out (Count n) out′
   put-stored out′ h s = let p = put-fits bytes n out h in (rw p, rw p (s ∙ stored-front out bytes h))
+
+  -- by the test whether they have room
+  pub put-none : leb (length bytes) (length out) ≡ false → Put bytes n out (Refused NoRoom) out
+  put-none e = put-refused (leb-false (length bytes) (length out) e)
+
+  pub put-all : (out′ : List ℕ) → leb (length bytes) (length out) ≡ true → out′ ≡ sets out 0 bytes → Put bytes n out (Count n) out′
+  put-all out′ e s = put-stored out′ (leb-true (length bytes) (length out) e) s
+
+-- what any chain can need has room
+pub room-for-all : (n most room : ℕ) → n ≤ most → most ≤ room → true ≡ leb n room
+room-for-all n most room h k = sym (le-leb n room (omega arith))
 
 -- ---- List
 
-module _ (fs : List Field) (n : ℕ) (sink sink′ : List ℕ) (m : WroteWinning Records fs sink 0 sink′ n) where
-  measured : n ≡ length (records (winning fs))
-  measured = omega (arith, m .0, ap length (written-records (winning fs)))
+module _ (fs : List Field) (n : ℕ) (out out′ : List ℕ) (w : WroteWinning Records fs out 0 out′ n) where
+  pub list-measured : n ≡ length (records (winning fs))
+  list-measured = omega (arith, w .0, ap length (written-records (winning fs)))
 
-  pub list-refused : (out : List ℕ) → length out < n → Put (records (winning fs)) (length (winning fs)) out (Refused NoRoom) out
-  list-refused out h = put-refused (records (winning fs)) (length (winning fs)) out (omega (arith, measured))
-
-  pub list-written : (out out′ : List ℕ) (k : ℕ) → n ≤ length out → WroteWinning Records fs out 0 out′ k → Put (records (winning fs)) (length (winning fs)) out (Count (n / 8)) out′
-  list-written out out′ k h w =
-      let c : n / 8 ≡ length (winning fs) = omega (arith, measured, records-length (winning fs) (winning-wins fs)) in
-      rw c (put-stored (records (winning fs)) (length (winning fs)) out out′ (omega (arith, measured)) (w .1 ∙ ap (sets out 0) (written-records (winning fs))))
+  pub list-written : leb (length (records (winning fs))) (length out) ≡ true → Put (records (winning fs)) (length (winning fs)) out (Count (n / 8)) out′
+  list-written h =
+      let c : n / 8 ≡ length (winning fs) = omega (arith, list-measured, records-length (winning fs) (winning-wins fs)) in
+      rw c (put-all (records (winning fs)) (length (winning fs)) out out′ h (w .1 ∙ ap (sets out 0) (written-records (winning fs))))
 
 -- ---- Flat
 
@@ -54,34 +65,31 @@ module _ (names : List ℕ) (fs : List Field) where
       rw (written-texts (winning fs), append-assoc names (58 ∷ []) (withColons (texts (winning fs)) ++ 10 ∷ []))
       (append-assoc names (58 ∷ withColons (texts (winning fs))) (10 ∷ []))
 
-  module _ (k end : ℕ) (sink sink′ : List ℕ) (named : k ≡ length names) (m : WroteWinning Texts fs sink (k + 1) sink′ end) where
-    pub flat-length : length (flatText names fs) ≡ end + 1
+  pub names-short : Bounded names fs → length names ≤ mostFlatBytes
+  names-short h =
+      let rest = written Texts (winning fs) ++ 10 ∷ [] in
+      omega (arith, h .flat-bytes, ap length flat-is, length-append (names ++ 58 ∷ []) rest, length-append names (58 ∷ []))
+
+  module _ (k end : ℕ) (out₂ out₃ : List ℕ) (named : k ≡ length names) (w : WroteWinning Texts fs out₂ (k + 1) out₃ end) where
+    pub flat-length : end + 1 ≡ length (flatText names fs)
     flat-length =
+        let body = written Texts (winning fs) in
         rw flat-is
-        (omega (arith, m .0, length-append (names ++ 58 ∷ []) (written Texts (winning fs) ++ 10 ∷ []), length-append names (58 ∷ []), length-append (written Texts (winning fs)) (10 ∷ [])))
+        (omega (arith, w .0, length-append (names ++ 58 ∷ []) (body ++ 10 ∷ []), length-append names (58 ∷ []), length-append body (10 ∷ [])))
 
-    pub flat-refused : (out : List ℕ) → length out ≤ end → Put (flatText names fs) (length (flatText names fs)) out (Refused NoRoom) out
-    flat-refused out h = put-refused (flatText names fs) (length (flatText names fs)) out (omega (arith, flat-length))
-
-    pub flat-written : (out out₁ out₂ out₃ out₄ : List ℕ) (end′ : ℕ) → end < length out → out₁ ≡ sets out 0 names → out₂ ≡ set out₁ k 58 → WroteWinning Texts fs out₂ (k + 1) out₃ end′
-        → out₄ ≡ set out₃ end 10 → Put (flatText names fs) (length (flatText names fs)) out (Count (end + 1)) out₄
-    flat-written out out₁ out₂ out₃ out₄ end′ h s₁ s₂ w s₄ =
-        let stored : out₄ ≡ sets out 0 (flatText names fs) = all in
-        rw flat-length (put-at (end + 1) flat-length stored)
+    pub flat-stored : (out out₁ out₄ : List ℕ) → out₁ ≡ sets out 0 names → out₂ ≡ set out₁ k 58 → out₄ ≡ set out₃ end 10
+        → out₄ ≡ sets out 0 (flatText names fs)
+    flat-stored out out₁ out₄ s₁ s₂ s₄ =
+        let body = written Texts (winning fs) in
+        let a : 0 + length (names ++ 58 ∷ []) ≡ k + 1 = omega (arith, named, length-append names (58 ∷ [])) in
+        let b : k + 1 + length body ≡ end = sym (w .0) in
+        let flat = ap (sets out 0) flat-is ∙ stored-append out 0 (names ++ 58 ∷ []) (body ++ 10 ∷ []) in
+        s₄ ∙ sym (flat ∙ rw (a, first) (stored-append out₂ (k + 1) body (10 ∷ []) ∙ rw (b, ← w .1)))
       where
-        put-at : (n : ℕ) → length (flatText names fs) ≡ n → out₄ ≡ sets out 0 (flatText names fs) → Put (flatText names fs) n out (Count n) out₄
-        put-at n e s = put-stored (flatText names fs) n out out₄ (omega (arith, flat-length)) s
-
         first : sets out 0 (names ++ 58 ∷ []) ≡ out₂
         first =
             let z : 0 + length names ≡ k = omega (arith, named) in
             stored-append out 0 names (58 ∷ []) ∙ rw (z, ← s₁, ← s₂)
-
-        all : out₄ ≡ sets out 0 (flatText names fs)
-        all =
-            let a : 0 + length (names ++ 58 ∷ []) ≡ k + 1 = omega (arith, named, length-append names (58 ∷ [])) in
-            let b : k + 1 + length (written Texts (winning fs)) ≡ end = sym (m .0) in
-            s₄ ∙ sym (ap (sets out 0) flat-is ∙ stored-append out 0 (names ++ 58 ∷ []) (written Texts (winning fs) ++ 10 ∷ []) ∙ rw (a, first) (stored-append out₂ (k + 1) (written Texts (winning fs)) (10 ∷ []) ∙ rw (b, ← w .1)))
 
 -- ---- the operations
 

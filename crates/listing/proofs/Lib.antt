@@ -1,3 +1,3 @@
-pub mod Marking
+pub mod Taking
 pub mod Passing
 pub mod Delivering

@@ -11,14 +11,15 @@ use lib.Seq.{sets}
 use Rattle.spec.specs.Lines.{lineAt}
 use Rattle.spec.specs.Fields.{Reading, malformed, ignored, link, capability, reading, split, withColons, size}
 use Rattle.spec.specs.Chain.{Field, placed, texts}
-use Rattle.spec.specs.Lookup.{winningAfter, winning}
+use Rattle.spec.specs.Lookup.{winningAfter, winning, readBefore}
 use Rattle.spec.specs.Listing.{fourBytes, recordOf, records}
 use Rattle.spec.proofs.Tests.{pick-all}
 use Rattle.spec.proofs.Stores.{stored-append}
 use Rattle.spec.proofs.AcceptedChain.{texts-append, texts-placed, size-append}
-use Rattle.spec.proofs.Winning.{readBefore, winning-after}
-use Rattle.listing.specs.Answers.{Marks, SomeMarks, wins, Took, fieldBytes, written, Passes, WroteWinning}
-use Rattle.listing.proofs.Marking.{no-marks}
+use Rattle.spec.proofs.Winning.{winning-after}
+use Rattle.capability_table.specs.Table.{Marks}
+use Rattle.capability_table.proofs.Marking.{no-marks}
+use Rattle.listing.specs.Answers.{SomeMarks, wins, TookReading, fieldBytes, written, Passes, mostForLine, WroteWinning}
 use Rattle.listing.specs.declared.Won.{Won}
 use Rattle.listing.specs.declared.Won.the-variants.{No, Yes}
 use Rattle.listing.specs.declared.Form.{Form}
@@ -74,14 +75,16 @@ module _ (form : Form) where
   pass-none t out to qs m = record { marks = m; ends = sym (add-zero to); stored = refl }
 
   module _ (f : Field) (t t′ out : List ℕ) (to : ℕ) where
-    pub pass-lost : ((qs : List Reading) → Marks qs t → Marks (reading (f .text) ∷ qs) t′ × (wins qs (reading (f .text)) ≡ false)) → Passes form (f ∷ []) t out to t′ out to
+    pub pass-lost : ((qs : List Reading) → Marks qs t → Marks (reading (f .text) ∷ qs) t′ × (wins qs (reading (f .text)) ≡ false))
+        → Passes form (f ∷ []) t out to t′ out to
     unfolding readBefore winningAfter written
     pass-lost h qs m =
         let w = h qs m in
         record { marks = w .0; ends = rw (w .1) (sym (add-zero to)); stored = rw (w .1) }
 
     pub pass-won : (out′ : List ℕ) (end : ℕ)
-        → ((qs : List Reading) → Marks qs t → Marks (reading (f .text) ∷ qs) t′ × (wins qs (reading (f .text)) ≡ true) × (end ≡ to + length (fieldBytes form f)) × (out′ ≡ sets out to (fieldBytes form f)))
+        → ((qs : List Reading) → Marks qs t → Marks (reading (f .text) ∷ qs) t′ × (wins qs (reading (f .text)) ≡ true)
+        × (end ≡ to + length (fieldBytes form f)) × (out′ ≡ sets out to (fieldBytes form f)))
         → Passes form (f ∷ []) t out to t′ out′ end
     unfolding readBefore winningAfter written
     pass-won out′ end h qs m =
@@ -89,13 +92,16 @@ module _ (form : Form) where
         record { marks = w .0; ends = rw (w .1, append-nil (fieldBytes form f)) (w .2); stored = rw (w .1, append-nil (fieldBytes form f)) (w .3) }
 
   module _ (fs gs : List Field) (t out : List ℕ) (to : ℕ) (t₁ out₁ : List ℕ) (mid : ℕ) (t₂ out₂ : List ℕ) (end : ℕ) where
-    pub pass-then : Passes form fs t out to t₁ out₁ mid → Passes form gs t₁ out₁ mid t₂ out₂ end → Passes form (fs ++ gs) t out to t₂ out₂ end
+    pub pass-then : Passes form fs t out to t₁ out₁ mid → Passes form gs t₁ out₁ mid t₂ out₂ end
+        → Passes form (fs ++ gs) t out to t₂ out₂ end
     pass-then p q qs m =
         let a = p qs m in
         let b = q (readBefore qs fs) (a .marks) in
         let x = written form (winningAfter qs fs) in
         let y = written form (winningAfter (readBefore qs fs) gs) in
-        let w : written form (winningAfter qs (fs ++ gs)) ≡ x ++ y = ap (written form) (winning-after qs fs gs) ∙ written-append form (winningAfter qs fs) (winningAfter (readBefore qs fs) gs) in
+        let all = winning-after qs fs gs in
+        let w : written form (winningAfter qs (fs ++ gs)) ≡ x ++ y =
+        ap (written form) all ∙ written-append form (winningAfter qs fs) (winningAfter (readBefore qs fs) gs) in
         record {
           marks = rw (read-append qs fs gs) (b .marks);
           ends = rw w (omega (arith, a .ends, b .ends, length-append x y));
@@ -103,10 +109,13 @@ module _ (form : Form) where
         }
 
   -- how far a part of a pass gets
-  pub pass-bound : (all done rest : List Field) (t out : List ℕ) (to : ℕ) (t′ out′ : List ℕ) (end : ℕ) (qs : List Reading) → Marks qs t → Passes form done t out to t′ out′ end
-      → all ≡ done ++ rest → size (texts all) ≤ 1048577 → end ≤ to + 8388616
+  pub pass-bound : (all done rest : List Field) (t out : List ℕ) (to : ℕ) (t′ out′ : List ℕ) (end : ℕ) (qs : List Reading) → Marks qs t
+      → Passes form done t out to t′ out′ end
+      → all ≡ done ++ rest → size (texts all) ≤ 1048577 → end ≤ to + mostForLine
   pass-bound all done rest t out to t′ out′ end qs m p e s =
-      let split-size : size (texts all) ≡ size (texts done) + size (texts rest) = ap (λ (fs : List Field). size (texts fs)) e ∙ ap size (texts-append done rest) ∙ size-append (texts done) (texts rest) in
+      let whole = ap (λ (fs : List Field). size (texts fs)) e in
+      let split-size : size (texts all) ≡ size (texts done) + size (texts rest) =
+      whole ∙ ap size (texts-append done rest) ∙ size-append (texts done) (texts rest) in
       omega (arith, p qs m .ends, written-short form qs done, split-size)
 
 -- ---- one field, in each form
@@ -115,18 +124,20 @@ module _ (place : ℕ) (text t t′ out : List ℕ) (to : ℕ) where
   abbrev here : Field
   here = record { place = place; text = text }
 
-  pub take-lost : (form : Form) (won : Won) → won ≡ No → Took (reading text) t t′ won → Passes form (here ∷ []) t out to t′ out to
+  pub take-lost : (form : Form) (won : Won) → won ≡ No → TookReading (reading text) t t′ won → Passes form (here ∷ []) t out to t′ out to
   take-lost form won e k = pass-lost form here t t′ out to (rw e at k)
 
-  pub take-record : (form : Form) (won : Won) (a b k v : ℕ) (out′ : List ℕ) → form ≡ Records → won ≡ Yes a b k v → Took (reading text) t t′ won
+  pub take-record : (form : Form) (won : Won) (a b k v : ℕ) (out′ : List ℕ) → form ≡ Records → won ≡ Yes a b k v
+      → TookReading (reading text) t t′ won
       → out′ ≡ sets out to (a ∷ b ∷ k ∷ place ∷ fourBytes v) → Passes form (here ∷ []) t out to t′ out′ (to + 8)
   take-record form won a b k v out′ g e h s =
       pass-won form here t t′ out to out′ (to + 8) λ qs m.
       let w = (rw e at h) qs m in
       (w .0, w .1 .0, rw (g, w .1 .1 place), rw (g, w .1 .1 place) s)
 
-  pub take-text : (form : Form) (won : Won) (a b k v n : ℕ) (out₁ out′ : List ℕ) → form ≡ Texts → won ≡ Yes a b k v → Took (reading text) t t′ won
-      → n ≡ length text → out₁ ≡ sets out to text → out′ ≡ set out₁ (to + n) 58 → Passes form (here ∷ []) t out to t′ out′ (to + n + 1)
+  pub take-text : (form : Form) (won : Won) (a b k v n : ℕ) (out₁ out′ : List ℕ) → form ≡ Texts → won ≡ Yes a b k v
+      → TookReading (reading text) t t′ won → n ≡ length text → out₁ ≡ sets out to text → out′ ≡ set out₁ (to + n) 58
+      → Passes form (here ∷ []) t out to t′ out′ (to + n + 1)
   take-text form won a b k v n out₁ out′ g e h l s s′ =
       pass-won form here t t′ out to out′ (to + n + 1) λ qs m.
       let w = (rw e at h) qs m in
@@ -139,24 +150,23 @@ module _ (place : ℕ) where
   unfolding placed
   line-done s at all done e h = e ∙ rw h (append-nil done)
 
-  pub line-last : (s : List ℕ) (at : ℕ) (all done : List Field) (t : List ℕ) → all ≡ done ++ placed place (split (lineAt s at)) → split (lineAt s at) ≡ t ∷ [] → all ≡ done ++ record { place = place; text = t } ∷ []
-  unfolding placed
-  line-last s at all done t e h = e ∙ rw h
-
-  pub line-more : (s : List ℕ) (at next : ℕ) (all done : List Field) (t : List ℕ) → all ≡ done ++ placed place (split (lineAt s at)) → split (lineAt s at) ≡ t ∷ split (lineAt s next)
+  pub line-more : (s : List ℕ) (at next : ℕ) (all done : List Field) (t : List ℕ) → all ≡ done ++ placed place (split (lineAt s at))
+      → split (lineAt s at) ≡ t ∷ split (lineAt s next)
       → all ≡ (done ++ record { place = place; text = t } ∷ []) ++ placed place (split (lineAt s next))
   unfolding placed
-  line-more s at next all done t e h = e ∙ rw h (sym (append-assoc done (record { place = place; text = t } ∷ []) (placed place (split (lineAt s next)))))
+  line-more s at next all done t e h =
+      e ∙ rw h (sym (append-assoc done (record { place = place; text = t } ∷ []) (placed place (split (lineAt s next)))))
 
   pub line-size-bound : (s : List ℕ) (at : ℕ) → size (split (lineAt s at)) ≤ 1048577 → size (texts (placed place (split (lineAt s at)))) ≤ 1048577
   line-size-bound s at h = rw (texts-placed place (split (lineAt s at))) h
 
 -- ---- a pass over all fields, from an empty table on
 
-pub pass-winning : (form : Form) (fs : List Field) (out : List ℕ) (to : ℕ) (t′ out′ : List ℕ) (end : ℕ) → Passes form fs (replicate 35344 0) out to t′ out′ end → WroteWinning form fs out to out′ end
-unfolding winning
-pass-winning form fs out to t′ out′ end p = let w = p [] no-marks in (w .ends, w .stored)
+module _ (form : Form) (fs : List Field) (out : List ℕ) (to : ℕ) (t′ out′ : List ℕ) (end : ℕ) (p : Passes form fs (replicate 8836 0) out to t′ out′ end) where
+  pub pass-winning : WroteWinning form fs out to out′ end
+  unfolding winning
+  pass-winning = let w = p [] no-marks in (w .ends, w .stored)
 
--- the table is marked by what was passed
-pub pass-marks : (form : Form) (fs : List Field) (out : List ℕ) (to : ℕ) (t′ out′ : List ℕ) (end : ℕ) → Passes form fs (replicate 35344 0) out to t′ out′ end → SomeMarks t′
-pass-marks form fs out to t′ out′ end p = (readBefore [] fs, p [] no-marks .marks)
+  -- the table is marked by what was passed
+  pub pass-marks : SomeMarks t′
+  pass-marks = (readBefore [] fs, p [] no-marks .marks)

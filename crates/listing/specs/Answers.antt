@@ -1,59 +1,32 @@
--- What the functions answer: a table of the names and kinds that were met, one pass over the fields with it, and the bytes that the pass
--- writes for the winning ones.
-use Prim.Native.Nat.{ℕ, _+_, _-_, _*_, _≤_}
+-- What the functions answer: one pass over the fields with a table of the capabilities that were met, and the bytes that the pass writes
+-- for the winning ones.
+use Prim.Native.Nat.{ℕ, _+_}
 use mathlib.Core.Path.{_≡_}
 use mathlib.Core.Bool.{Bool, true, false, not}
 use mathlib.Core.List.{List, [], _∷_, _++_}
-use lib.Dec.{eqb}
 use lib.ListN.{length, getD}
 use lib.Seq.{sets}
-use Rattle.spec.specs.Choice.{both, either}
+use Rattle.spec.specs.Choice.{both}
 use Rattle.spec.specs.Fields.{Reading, reading, namesOf}
 use Rattle.spec.specs.Chain.{Field, joinedFields}
-use Rattle.spec.specs.Lookup.{matches, canWin, hidden, winningAfter, winning}
+use Rattle.spec.specs.Lookup.{canWin, hidden, winningAfter, winning, readBefore}
 use Rattle.spec.specs.Lines.{lineAt}
 use Rattle.spec.specs.Answers.{put}
-use Rattle.spec.specs.Listing.{fourBytes, recordOf, flatText}
+use Rattle.spec.specs.Listing.{fourBytes, recordOf, records, flatText, Bounded}
 use Rattle.spec.specs.declared.Written.{Written}
+use Rattle.field_bounds.specs.Answers.{fieldAt}
+use Rattle.fields.specs.Readings.{Reads}
+use Rattle.fields.specs.declared.FieldRead.{FieldRead}
 use Rattle.chain.specs.Answers.{placesOf}
 use Rattle.chain.specs.declared.Chain.{Chain}
-use Rattle.spec.proofs.Winning.{readBefore}
+use Rattle.capability_table.specs.Table.{Marks}
 use Rattle.listing.specs.declared.Form.{Form}
 use Rattle.listing.specs.declared.Form.the-variants.{Records, Texts}
 use Rattle.listing.specs.declared.Won.{Won}
 use Rattle.listing.specs.declared.Won.the-variants.{No, Yes}
 
--- ---- the table: a byte for each name of two bytes 33..126 and each kind, 0 for a cancel
-
-abbrev pub keyOf : ℕ → ℕ → ℕ → ℕ
-keyOf a b k = ((a - 33) * 94 + (b - 33)) * 4 + k
-
-pub record NameBytes (a b : ℕ) : Type 0 where
-  pub first-low : 33 ≤ a
-  pub first-high : a ≤ 126
-  pub second-low : 33 ≤ b
-  pub second-high : b ≤ 126
-
--- Whether a field of that name and kind is among those that were read.
-unfoldable pub met : List ℕ → ℕ → List Reading → Bool
-met id k [] = false
-met id k (q ∷ qs) = either (matches id k q) (met id k qs)
-
-abbrev pub bit : Bool → ℕ
-bit true = 1
-bit false = 0
-
--- The table after fields that were read so.
-pub record Marks (qs : List Reading) (table : List ℕ) : Type 0 where
-  pub size : length table ≡ 35344
-  pub marked : (a b k : ℕ) → NameBytes a b → k ≤ 3 → getD table (keyOf a b k) 0 ≡ bit (met (a ∷ b ∷ []) k qs)
-
 abbrev pub SomeMarks : List ℕ → Type 0
 SomeMarks table = (qs : List Reading) × Marks qs table
-
--- The table has no mark for a cancel of the name, nor for the name and kind.
-abbrev pub first : List ℕ → ℕ → ℕ → ℕ → Bool
-first table a b k = both (eqb (getD table (keyOf a b 0) 0) 0) (eqb (getD table (keyOf a b k) 0) 0)
 
 abbrev pub wonIf : Bool → ℕ → ℕ → ℕ → ℕ → Won
 wonIf true a b k v = Yes a b k v
@@ -69,9 +42,13 @@ abbrev pub WonAfter : List Reading → Reading → Won → Type 0
 WonAfter qs r No = wins qs r ≡ false
 WonAfter qs r (Yes a b k v) = (wins qs r ≡ true) × ((place : ℕ) → recordOf place r ≡ a ∷ b ∷ k ∷ place ∷ fourBytes v)
 
--- `take_field`: the field is marked, and it wins or not.
-abbrev pub Took : Reading → List ℕ → List ℕ → Won → Type 0
-Took r table table′ won = (qs : List Reading) → Marks qs table → Marks (r ∷ qs) table′ × WonAfter qs r won
+-- A field with that reading is marked, and it wins or not.
+abbrev pub TookReading : Reading → List ℕ → List ℕ → Won → Type 0
+TookReading r table table′ won = (qs : List Reading) → Marks qs table → Marks (r ∷ qs) table′ × WonAfter qs r won
+
+-- `take_field`: whatever field is read so.
+abbrev pub Took : FieldRead → List ℕ → List ℕ → Won → Type 0
+Took read table table′ won = (s : List ℕ) (at : ℕ) → Reads s at read → TookReading (reading (fieldAt s at)) table table′ won
 
 -- ---- what is written
 
@@ -96,6 +73,14 @@ Passes form fs table out to table′ out′ end = (qs : List Reading) → Marks 
 abbrev pub oneField : ℕ → List ℕ → List Field
 oneField place text = record { place = place; text = text } ∷ []
 
+-- The most bytes that are written for one line: 8 for each byte of a database, and for one more.
+abbrev pub mostForLine : ℕ
+mostForLine = 8388616
+
+-- No pass gets farther: it starts within so many bytes, and a chain has 32 lines.
+abbrev pub farthest : ℕ
+farthest = 1073741824
+
 -- `write_winning`: what is written for the winning ones of all fields.
 abbrev pub WroteWinning : Form → List Field → List ℕ → ℕ → List ℕ → ℕ → Type 0
 WroteWinning form fs out to out′ end = (end ≡ to + length (written form (winning fs))) × (out′ ≡ sets out to (written form (winning fs)))
@@ -106,6 +91,16 @@ WroteWinning form fs out to out′ end = (end ≡ to + length (written form (win
 abbrev pub Put : List ℕ → ℕ → List ℕ → Written → List ℕ → Type 0
 Put bytes n buffer r after = (r ≡ put bytes n buffer .answer) × (after ≡ put bytes n buffer .buffer)
 
--- Flat of a chain.
+-- The records and Flat of a chain.
+abbrev pub recordsOf : List ℕ → Chain → List ℕ
+recordsOf db c = records (winning (joinedFields db 0 (placesOf c)))
+
+abbrev pub firstNames : List ℕ → Chain → List ℕ
+firstNames db c = namesOf (lineAt db (getD (placesOf c) 0 0))
+
 abbrev pub flatOf : List ℕ → Chain → List ℕ
-flatOf db c = flatText (namesOf (lineAt db (getD (placesOf c) 0 0))) (joinedFields db 0 (placesOf c))
+flatOf db c = flatText (firstNames db c) (joinedFields db 0 (placesOf c))
+
+-- What is known of both for every accepted chain.
+abbrev pub BoundedChain : List ℕ → Chain → Type 0
+BoundedChain db c = Bounded (firstNames db c) (joinedFields db 0 (placesOf c))

@@ -9,7 +9,7 @@ use native.Mathlib.Omega.{arith}
 use borrow.Author.Tests.{eqb-true, eqb-false, ltb-true, ltb-false}
 use lib.Dec.{eqb, ltb}
 use lib.ListN.{length}
-use Rattle.name_places.specs.Marks.{Separator, Ending, Settled, Each, Passed}
+use Rattle.name_places.specs.Marks.{Separator, Ending, Each, Passed}
 
 pub or-left : (x y : Bool) → (x || y) ≡ false → x ≡ false
 or-left true y e = e
@@ -88,8 +88,3 @@ module _ {s n : List ℕ} {a : ℕ} where
       let f = x .from in
       let g = y .from in
       record { from = omega arith; inside = y .inside; settled = each-join i (x .settled) (y .settled) }
-
-  pub passed-one : {i : ℕ} → Passed s n a i → Settled s n i → i + 1 + 2 ≤ length s → Passed s n a (i + 1)
-  passed-one x y h =
-      let f = x .from in
-      record { from = omega arith; inside = h; settled = each-one _ (x .settled) y }

@@ -8,6 +8,22 @@ ghost use mathlib.Core.Logic.{_⊎_};
 ghost use lib.ListN.{length};
 ghost use Rattle.name_places.specs.Marks.{Separator, Alone, Ending, Stop, Stops, Spelled, Whole, Settled, AllSettled, Passed, markOf, Marked, Measured, pickOf};
 
+// The places of a part.
+const PLACES: u8 = 16;
+
+const PART: usize = PLACES as usize;
+
+// The most bytes that are measured of a name: a longer one is not measured.
+const MEASURED: u8 = 32;
+
+const LONGEST: usize = MEASURED as usize;
+
+// The bytes, beside those of the name, that a part is looked at with: its 16 places, the two before a name, and 32 to measure one.
+const REACH: usize = 50;
+
+// The mark of a place where a name may be cut: above the number of any place.
+const CUT: u8 = 64;
+
 // ---- where a name may have the asked length
 
 // Whether a byte may follow a name: a newline, a colon, a bar, or the backslash of a pair. Each of the two tests is for a couple of them,
@@ -15,7 +31,7 @@ ghost use Rattle.name_places.specs.Marks.{Separator, Alone, Ending, Stop
 pub fn is_stop(b: u8) -> bool
     ensures { λ r. ⌜ (r ≡ false → Stop b → ⊥) ⌝ }
 {
-    ((b & 207) == 10) | ((b | 32) == 124)
+    ((b & 207) == b'\n') | ((b | 32) == b'|')
 }
 
 // Whether a name may stand between two bytes, behind the newline of no pair. A backslash may follow it, as the first byte of a pair. Here
@@ -24,15 +40,15 @@ pub fn is_between(before: u8, separator: u8, behind: u8) -> bool
     ensures { λ r. ⌜ (r ≡ false → Separator separator → Alone before separator → Stop behind → ⊥) ⌝ }
     ensures { λ r. ⌜ (r ≡ true → Separator separator) ⌝ }
 {
-    ((separator == 124) | ((separator == 10) & (before != 92)))
-        & ((behind == 10) | (behind == 58) | (behind == 92) | (behind == 124))
+    ((separator == b'|') | ((separator == b'\n') & (before != b'\\')))
+        & ((behind == b'\n') | (behind == b':') | (behind == b'\\') | (behind == b'|'))
 }
 
 // Whether the last of three bytes is a newline that vanishes among the names of its line: after a backslash, and no colon before that.
 pub fn is_cut(earlier: u8, before: u8, newline: u8) -> bool
     ensures { λ r. ⌜ (r ≡ false → newline ≡ 10 → before ≡ 92 → (earlier ≡ 58 → ⊥) → ⊥) ⌝ }
 {
-    (newline == 10) & (before == 92) & (earlier != 58)
+    (newline == b'\n') & (before == b'\\') & (earlier != b':')
 }
 
 // ---- which name has it, and may be the asked one
@@ -54,7 +70,7 @@ fn mark_of(cut: bool, fits: bool, number: u8) -> u8
     ensures { λ r. ⌜ r ≡ markOf cut fits number ⌝ }
 {
     if cut {
-        return 64;
+        return CUT;
     }
     if fits {
         return number;
@@ -76,12 +92,12 @@ fn mark_places(s: &[u8], at: usize, name: &[u8]) -> PlaceMarks
     let mut high = 0;
     let mut low = 0;
     let mut k: u8 = 0;
-    while k < 16 {
+    while k < PLACES {
         let i = at + (k as usize);
         let fits = is_between(s[i + 1], s[i + 2], s[i + 3 + size]);
         let cut = is_cut(s[i], s[i + 1], s[i + 2]);
         high = higher(high, mark_of(cut, fits, k + 1));
-        low = higher(low, mark_of(false, fits, 16 - k));
+        low = higher(low, mark_of(false, fits, PLACES - k));
         k += 1;
     }
     PlaceMarks {
@@ -95,7 +111,7 @@ fn is_ending(b: u8) -> bool
     ensures { λ r. ⌜ (r ≡ true → Ending b) ⌝ }
     ensures { λ r. ⌜ (r ≡ false → Ending b → ⊥) ⌝ }
 {
-    (b == 10) | (b == 58) | (b == 124)
+    (b == b'\n') | (b == b':') | (b == b'|')
 }
 
 // How many bytes a name has that stands at a place with no pair in it, up to 32.
@@ -105,12 +121,12 @@ fn measure(s: &[u8], at: usize) -> u8
 {
     let mut far = 0;
     let mut k: u8 = 0;
-    while k < 32 {
+    while k < MEASURED {
         let ending = is_ending(s[at + (k as usize)]);
-        far = higher(far, mark_of(false, ending, 32 - k));
+        far = higher(far, mark_of(false, ending, MEASURED - k));
         k += 1;
     }
-    32 - far
+    MEASURED - far
 }
 
 // One of two places.
@@ -134,11 +150,11 @@ fn is_like(s: &[u8], at: usize, name: &[u8]) -> bool
     ensures { λ r. ⌜ (r ≡ false → Spelled (now (s .entry)) (now (name .entry)) at → Whole (now (s .entry)) at (at + length (now (name .entry))) → ⊥) ⌝ }
 {
     let size = name.len();
-    if size > 32 {
+    if size > LONGEST {
         return true;
     }
     let whole = size <= (measure(s, at) as usize);
-    let open = (s[at + size - 1] == 92) | (s[at + size] == 92);
+    let open = (s[at + size - 1] == b'\\') | (s[at + size] == b'\\');
     let sure = whole & !open;
     let start = s[pick(sure, at, at - 1)];
     let end = s[pick(sure, at + size - 1, at - 1)];
@@ -158,7 +174,7 @@ fn any_mark(s: &[u8], at: usize, name: &[u8]) -> bool
     if high == 0 {
         return false;
     }
-    if high > 16 {
+    if high > PART {
         return true;
     }
     if high + low > name.len() + 17 {
@@ -176,7 +192,7 @@ fn is_long(s: &[u8], at: usize, size: usize) -> bool
 {
     if size < s.len() - at {
         return match s[at + size] {
-            10 | 58 | 92 | 124 => true,
+            b'\n' | b':' | b'\\' | b'|' => true,
             _ => false,
         };
     }
@@ -190,7 +206,7 @@ fn is_hit(s: &[u8], at: usize, name: &[u8]) -> bool
 {
     let separator = s[at + 2];
     match separator {
-        10 | 124 => {
+        b'\n' | b'|' => {
             if is_cut(s[at], s[at + 1], separator) {
                 return true;
             }
@@ -232,16 +248,16 @@ pub fn hit_in_part(s: &[u8], at: usize, name: &[u8]) -> usize
         return at;
     }
     let left = s.len() - at;
-    if left < 50 {
+    if left < REACH {
         return at;
     }
-    if left - 50 < size {
+    if left - REACH < size {
         return at;
     }
     if any_mark(s, at, name) {
-        return first_hit(s, at, at + 16, name);
+        return first_hit(s, at, at + PART, name);
     }
-    at + 16
+    at + PART
 }
 
 // The first hit from `at` on, or the last place but two: part by part, and place by place at the end. An empty name has no length to look
@@ -259,11 +275,11 @@ pub fn hit_by_parts(s: &[u8], at: usize, name: &[u8]) -> usize
     if len - 2 < at {
         return at;
     }
-    let need = name.len() + 50;
+    let need = name.len() + REACH;
     let mut i = at;
     while need <= len - i {
         let found = hit_in_part(s, i, name);
-        if found - i < 16 {
+        if found - i < PART {
             return found;
         }
         i = found;

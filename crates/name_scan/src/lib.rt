@@ -1,5 +1,14 @@
-// Scans a termcap database for an asked name, in blocks of 48 bytes. It passes over all blocks in which no name can start, then over all
-// parts of the others in which no name can have the asked length.
+// Scans a termcap database for an asked name, in four passes. Each looks only at what the pass before it left.
+//
+// | Pass | Looks at | Lists | Proved by |
+// |---|---|---|---|
+// | 1 | all blocks of 48 places: each byte and the next one | blocks in which a plain name can start | `list_for` |
+// | 2 | the parts of these, of 16 places: the bytes before and behind a name | parts where a name can have the asked length | `list_parts` |
+// | 3 | these parts: the length of the last such name, its first and last byte | nothing | `any_mark` of `name_places` |
+// | 4 | each place of a part that is left: the whole name | nothing: it answers the first hit | `first_hit` of `name_places` |
+//
+// For a name that is not plain, pass 1 lists all blocks. Without lists, and near the end of the database, `hit_by_parts` takes all parts
+// through the passes 3 and 4.
 use name_places::hit_by_parts;
 use name_places::hit_in_part;
 use name_places::is_between;
@@ -11,6 +20,24 @@ ghost use mathlib.Core.Path.{_≡_};
 ghost use lib.ListN.{length, set};
 ghost use Rattle.name_places.specs.Marks.{AllSettled, Passed};
 ghost use Rattle.name_scan.specs.Blocks.{Start, Startless, Plain, Listed, counted, StartsListed, BlocksListed};
+
+// The places of a part.
+const PART: usize = 16;
+
+// The places of a block: three parts.
+const BLOCK: usize = 48;
+
+// The most blocks that are listed at a time.
+pub const BLOCKS: usize = 512;
+
+// The parts of so many blocks.
+pub const PARTS: usize = 1536;
+
+// How many blocks are listed at first.
+const FIRST_BLOCKS: usize = 4;
+
+// The bytes, beside those of the name, that a block is looked at with: its 48 places, the two before a name, and 32 to measure one.
+const REACH: usize = 82;
 
 // ---- where a name can start
 
@@ -63,7 +90,7 @@ fn any_start(s: &[u8], at: usize) -> bool
 {
     let mut hit = false;
     let mut k = 0;
-    while k < 48 {
+    while k < BLOCK {
         hit = hit | is_start(s[at + k], s[at + k + 1]);
         k += 1;
     }
@@ -94,9 +121,9 @@ fn list_four(s: &[u8], at: usize, k: usize, list: &mut [u16], count: usize) -> u
     requires { ⌜ StartsListed (now s) at (now list) count k ⌝ }
     ensures { λ r. ⌜ StartsListed (now (s .entry)) at (now (list .exit)) r (k + 4) ⌝ }
 {
-    let i = at + k * 48;
+    let i = at + k * BLOCK;
     let a = any_start(s, i);
-    let b = any_start(s, i + 48);
+    let b = any_start(s, i + BLOCK);
     let c = any_start(s, i + 96);
     let d = any_start(s, i + 144);
     let one = note(a, k, list, count);
@@ -117,7 +144,7 @@ fn list_rest(s: &[u8], at: usize, k: usize, n: usize, list: &mut [u16], count: u
     let mut i = k;
     let mut c = count;
     while i < n {
-        let start = any_start(s, at + i * 48);
+        let start = any_start(s, at + i * BLOCK);
         c = note(start, i, list, c);
         i += 1;
     }
@@ -180,7 +207,7 @@ fn any_fit(s: &[u8], at: usize, name: &[u8]) -> bool
     let size = name.len();
     let mut hit = false;
     let mut k = 0;
-    while k < 16 {
+    while k < PART {
         let i = at + k;
         let fits = is_between(s[i + 1], s[i + 2], s[i + 3 + size]);
         hit = hit | (fits | is_cut(s[i], s[i + 1], s[i + 2]));
@@ -199,10 +226,10 @@ fn any_plain_fit(s: &[u8], at: usize, name: &[u8]) -> bool
     let size = name.len();
     let mut hit = false;
     let mut k = 0;
-    while k < 16 {
+    while k < PART {
         let i = at + k;
         let start = is_start(s[i + 2], s[i + 3]);
-        let ends = (s[i + 1] == 92) | is_stop(s[i + 3 + size]);
+        let ends = (s[i + 1] == b'\\') | is_stop(s[i + 3 + size]);
         hit = hit | (start & ends);
         k += 1;
     }
@@ -240,9 +267,9 @@ fn list_three(
     requires { ⌜ BlocksListed 16 (now s) (now name) at (now list) count (block * 3) ⌝ }
     ensures { λ r. ⌜ BlocksListed 16 (now (s .entry)) (now (name .entry)) at (now (list .exit)) r (block * 3 + 3) ⌝ }
 {
-    let i = at + block * 48;
+    let i = at + block * BLOCK;
     let a = any_fit_for(s, i, name, plain);
-    let b = any_fit_for(s, i + 16, name, plain);
+    let b = any_fit_for(s, i + PART, name, plain);
     let c = any_fit_for(s, i + 32, name, plain);
     let k = block * 3;
     let one = note(a, k, list, count);
@@ -294,14 +321,14 @@ fn hit_in_parts(s: &[u8], at: usize, n: usize, name: &[u8], parts: &[u16], count
 {
     let mut c = 0;
     while c < count {
-        let i = at + (parts[c] as usize) * 16;
+        let i = at + (parts[c] as usize) * PART;
         let found = hit_in_part(s, i, name);
-        if found - i < 16 {
+        if found - i < PART {
             return found;
         }
         c += 1;
     }
-    at + n * 48
+    at + n * BLOCK
 }
 
 // The first hit of the `n` blocks from `at` on, or the place behind them.
@@ -335,7 +362,7 @@ fn fitting(n: usize, room: usize) -> usize
     ensures { λ r. ⌜ r ≤ n ⌝ }
     ensures { λ r. ⌜ r * 48 ≤ room + 48 ⌝ }
 {
-    let most = room / 48 + 1;
+    let most = room / BLOCK + 1;
     if n < most {
         return n;
     }
@@ -370,14 +397,14 @@ fn hit_by_stretches(
     ensures { λ r. ⌜ Passed (now (s .entry)) (now (name .entry)) at r ⌝ }
 {
     let len = s.len();
-    let reach = name.len() + 82;
+    let reach = name.len() + REACH;
     let plain = is_plain(name);
-    let mut n = 4;
+    let mut n = FIRST_BLOCKS;
     let mut i = at;
     while reach <= len - i {
         let m = fitting(n, len - i - reach);
         let found = hit_in_stretch(s, i, m, name, plain, blocks, parts);
-        if found - i < m * 48 {
+        if found - i < m * BLOCK {
             return found;
         }
         n = next_count(n);
@@ -386,8 +413,8 @@ fn hit_by_stretches(
     hit_by_parts(s, i, name)
 }
 
-// The first hit from `at` on, or the last place but two. An empty name has no length to look for. The lists, of 512 and 1536 numbers, are
-// lent, so that they are not cleared for each hit.
+// The first hit from `at` on, or the last place but two. An empty name has no length to look for. The lists are lent, so that they are
+// not cleared for each hit. If they do not have BLOCKS and PARTS numbers, the scan does without: a short database needs none.
 pub fn next_hit(s: &[u8], at: usize, name: &[u8], blocks: &mut [u16], parts: &mut [u16]) -> usize
     ensures { λ r. ⌜ (0 < length (now (name .entry)) → at + 2 ≤ length (now (s .entry)) → Passed (now (s .entry)) (now (name .entry)) at r) ⌝ }
 {
@@ -400,11 +427,11 @@ pub fn next_hit(s: &[u8], at: usize, name: &[u8], blocks: &mut [u16], parts: &mu
     if s.len() - 2 < at {
         return at;
     }
-    if blocks.len() != 512 {
-        return at;
+    if blocks.len() != BLOCKS {
+        return hit_by_parts(s, at, name);
     }
-    if parts.len() != 1536 {
-        return at;
+    if parts.len() != PARTS {
+        return hit_by_parts(s, at, name);
     }
     hit_by_stretches(s, at, name, blocks, parts)
 }

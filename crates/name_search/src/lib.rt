@@ -5,6 +5,8 @@ use lines::is_ignored;
 use lines::is_name;
 use lines::line_end;
 use lines::next_name;
+use name_scan::BLOCKS;
+use name_scan::PARTS;
 use name_scan::next_hit;
 use spec::Found;
 ghost use Prim.Native.Nat.{_≤_, _<_};
@@ -12,6 +14,9 @@ ghost use mathlib.Core.Path.{_≡_};
 ghost use lib.ListN.{length};
 ghost use Rattle.spec.specs.Lines.{findLine};
 ghost use Rattle.name_search.specs.Candidates.{Closes, LineOf, NextCandidate};
+
+// A database of fewer bytes is searched without the scan's lists: to clear them would cost more than they save.
+const LISTED: usize = 2048;
 
 // Where the line starts, behind the line's end at `end`, that has the place before `at`.
 fn line_of(s: &[u8], end: usize, at: usize) -> usize
@@ -22,8 +27,8 @@ fn line_of(s: &[u8], end: usize, at: usize) -> usize
 {
     let mut i = at;
     while i - end > 1 {
-        if s[i - 1] == 10 {
-            if s[i - 2] != 92 {
+        if s[i - 1] == b'\n' {
+            if s[i - 2] != b'\\' {
                 return i;
             }
         }
@@ -57,12 +62,10 @@ fn next_candidate(s: &[u8], end: usize, name: &[u8], blocks: &mut [u16], parts: 
 }
 
 // Where the first line starts that is not ignored and that has the name: lines in the outer loop, names in the inner one. The outer loop
-// goes from candidate to candidate.
-pub fn find_line(db: &[u8], name: &[u8]) -> Found
+// goes from candidate to candidate; the lists are for the scan.
+fn search_lines(db: &[u8], name: &[u8], blocks: &mut [u16], parts: &mut [u16]) -> Found
     ensures { λ r. ⌜ r ≡ findLine (now (db .entry)) (now (name .entry)) ⌝ }
 {
-    let mut blocks = [0u16; 512];
-    let mut parts = [0u16; 1536];
     let mut at = 0;
     'lines: loop {
         if !is_ignored(db, at) {
@@ -77,9 +80,23 @@ pub fn find_line(db: &[u8], name: &[u8]) -> Found
                 }
             }
         }
-        match next_candidate(db, line_end(db, at), name, &mut blocks, &mut parts) {
+        match next_candidate(db, line_end(db, at), name, blocks, parts) {
             Next::To(n) => at = n,
             Next::Last => break Found::Nothing,
         }
     }
+}
+
+// Where the first line starts that is not ignored and that has the name.
+pub fn find_line(db: &[u8], name: &[u8]) -> Found
+    ensures { λ r. ⌜ r ≡ findLine (now (db .entry)) (now (name .entry)) ⌝ }
+{
+    if db.len() < LISTED {
+        let mut no_blocks = [0u16; 0];
+        let mut no_parts = [0u16; 0];
+        return search_lines(db, name, &mut no_blocks, &mut no_parts);
+    }
+    let mut blocks = [0u16; BLOCKS];
+    let mut parts = [0u16; PARTS];
+    search_lines(db, name, &mut blocks, &mut parts)
 }

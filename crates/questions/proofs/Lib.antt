@@ -1,4 +1,3 @@
-pub mod Scanning
-pub mod AskedNames
 pub mod Terminals
+pub mod ReadFields
 pub mod WrittenStrings

@@ -3,12 +3,13 @@
 // These lines build the database that the cases after them are asked on: `=` empties it, `>` adds the rest of the line and a newline, `+`
 // the rest of the line alone, `*` and a byte, a bar and a count adds that byte as often, as far as the space goes.
 //
-// A case is `part` (the ends of what Show shows) or `show` and a name; `flag` or `number`, a name and an id; `String`, a name, an id and
-// a room; `List` or `Flat`, a name and a room; with a bar after each but the last. In a name and an id a backslash and two hexadecimal
-// digits stand for a byte. The buffer has as many bytes as the room says, at most 64, holds 255 in each before the call, and is
-// written in decimal after the answer. Any other line is a comment.
+// A case is `part` (the ends of what Show shows) or `show` and a name; `flag` or `number`, a name and an id; `open`, a name and an id (one
+// opened reader is asked Flag, Number and Show); `String`, a name, an id and a room; `List` or `Flat`, a name and a room; with a bar after
+// each but the last. In a name and an id a backslash and two hexadecimal digits stand for a byte. The buffer has as many bytes as the room
+// says, at most 64, holds 255 in each before the call, and is written in decimal after the answer. Any other line is a comment.
 ghost use Prim.Native.Nat.{_≤_};
 ghost use lib.ListN.{length};
+ghost use Rattle.io.specs.Counts.{Counts};
 use case_lines::find;
 use case_lines::number;
 use case_lines::room;
@@ -109,13 +110,13 @@ fn show_shown(bytes: &[u8], refusal: u8) {
 // ---- the cases
 
 fn case_part(db: &[u8], name: &[u8]) {
-    show_ends(questions::show_part(db, name));
+    show_ends(show::show_part(db, name));
     io::write_all(1, b"\n");
 }
 
 fn case_show(db: &[u8], name: &[u8]) {
     let mut refusal = 255;
-    let bytes = questions::show(db, name, &mut refusal);
+    let bytes = show::show(db, name, &mut refusal);
     show_shown(bytes, refusal);
     io::write_all(1, b"\n");
 }
@@ -127,6 +128,27 @@ fn case_flag(db: &[u8], name: &[u8], id: &[u8]) {
 
 fn case_number(db: &[u8], name: &[u8], id: &[u8]) {
     show_value(questions::number(db, name, id));
+    io::write_all(1, b"\n");
+}
+
+fn show_values(flag: Answer, number: Answer) {
+    show_value(flag);
+    show_value(number);
+}
+
+// One opened reader serves all three questions; its answers to Flag and Number are written.
+fn ask_opened<'a>(db: &'a [u8], name: &[u8], id: &[u8], refusal: &mut u8) -> &'a [u8] {
+    let opened = reader::open(db);
+    let flag = reader::flag(opened, name, id);
+    let number = reader::number(opened, name, id);
+    show_values(flag, number);
+    reader::show(opened, name, refusal)
+}
+
+fn case_opened(db: &[u8], name: &[u8], id: &[u8]) {
+    let mut refusal = 255;
+    let bytes = ask_opened(db, name, id, &mut refusal);
+    show_shown(bytes, refusal);
     io::write_all(1, b"\n");
 }
 
@@ -149,18 +171,18 @@ fn case_flat(db: &[u8], name: &[u8], out: &mut [u8]) {
 
 fn is_case(b: u8) -> bool {
     match b {
-        b'p' | b's' | b'f' | b'n' | b'S' | b'L' | b'F' => true,
+        b'p' | b's' | b'f' | b'n' | b'o' | b'S' | b'L' | b'F' => true,
         _ => false,
     }
 }
 
-fn case_room(operation: u8, line: &[u8]) -> usize
-    ensures { λ r. ⌜ r ≤ 64 ⌝ }
+fn case_room(operation: u8, line: &[u8], buffer: &[u8]) -> usize
+    ensures { λ r. ⌜ Counts r (now (buffer .entry)) ⌝ }
 {
     if operation == b'S' {
-        return room(line, 3);
+        return room(line, 3, buffer);
     }
-    room(line, 2)
+    room(line, 2, buffer)
 }
 
 fn ask(operation: u8, db: &[u8], name: &[u8], id: &[u8], out: &mut [u8]) {
@@ -169,6 +191,7 @@ fn ask(operation: u8, db: &[u8], name: &[u8], id: &[u8], out: &mut [u8]) {
         b's' => case_show(db, name),
         b'f' => case_flag(db, name, id),
         b'n' => case_number(db, name, id),
+        b'o' => case_opened(db, name, id),
         b'S' => case_string(db, name, id, out),
         b'L' => case_list(db, name, out),
         _ => case_flat(db, name, out),
@@ -177,7 +200,7 @@ fn ask(operation: u8, db: &[u8], name: &[u8], id: &[u8], out: &mut [u8]) {
 
 fn ask_in_room(operation: u8, line: &[u8], db: &[u8], name: &[u8], id: &[u8]) {
     let mut out = [255u8; 64];
-    let most = case_room(operation, line);
+    let most = case_room(operation, line, &out);
     ask(operation, db, name, id, &mut out[..most]);
 }
 

@@ -1,2 +1,1 @@
 pub mod AnswerFromReader
-pub mod AnswerFromDatabase

@@ -63,11 +63,11 @@ fn run_line(line: &[u8], n: u64) {
     let mut out = [255u8; 64];
     match line[0] {
         b'a' => {
-            let most = room(line, 9);
+            let most = room(line, 9, &out);
             case_at(line, n, &mut out[..most]);
         }
         b's' => {
-            let most = room(line, 5);
+            let most = room(line, 5, &out);
             case_send(line, n, &mut out[..most]);
         }
         _ => {}

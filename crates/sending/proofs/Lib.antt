@@ -3,4 +3,3 @@ pub mod Delivery
 pub mod Inputs
 pub mod Outgoing
 pub mod TwoPasses
-pub mod PadsReported

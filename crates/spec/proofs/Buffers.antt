@@ -39,20 +39,3 @@ module _ (bytes : List ℕ) (n : ℕ) (buffer : List ℕ) where
       go : (x : Bool) → pick x full kept .answer ≡ Refused r → pick x full kept .buffer ≡ buffer
       go true e = let z : _≡_ {A = ℕ} 0 1 = cc in absurd (omega arith)
       go false e = refl
-
-  -- The buffer keeps its length, and what stands after the bytes stays.
-  pub put-length : length (put bytes n buffer .buffer) ≡ length buffer
-  unfolding put
-  put-length = go (leb (length bytes) (length buffer)) refl
-    where
-      go : (x : Bool) → leb (length bytes) (length buffer) ≡ x → length (pick x full kept .buffer) ≡ length buffer
-      go true e = omega (arith, length-append bytes (drop (length bytes) buffer), length-drop (length bytes) buffer, leb-true (length bytes) (length buffer) e)
-      go false e = refl
-
-  pub put-rest : drop (length bytes) (put bytes n buffer .buffer) ≡ drop (length bytes) buffer
-  unfolding put
-  put-rest = go (leb (length bytes) (length buffer))
-    where
-      go : (x : Bool) → drop (length bytes) (pick x full kept .buffer) ≡ drop (length bytes) buffer
-      go true = drop-at bytes (drop (length bytes) buffer) (length bytes) refl
-      go false = refl

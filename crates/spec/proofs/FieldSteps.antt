@@ -128,9 +128,9 @@ module _ (b : ℕ) (l : List ℕ) where
   unfolding decode
   decode-letter v h e k = rw (not-octal b h, e, le-leb v 255 k)
 
-  pub decode-no-letter : ((48 ≤ b) × (b ≤ 55) → ⊥) → escaped b ≡ 256 → decode slash (b ∷ l) ≡ bad
+  pub decode-no-letter : ((48 ≤ b) × (b ≤ 55) → ⊥) → 255 < escaped b → decode slash (b ∷ l) ≡ bad
   unfolding decode
-  decode-no-letter h e = rw (not-octal b h, e)
+  decode-no-letter h k = rw (not-octal b h, lt-leb (escaped b) 255 k)
 
   pub decode-first : (48 ≤ b) × (b ≤ 55) → decode slash (b ∷ l) ≡ decode (oneDigit (b - 48)) l
   unfolding decode
@@ -168,9 +168,6 @@ control-127 b e = rw (eq-eqb b 63 e)
 pub control-mod : (b : ℕ) → 63 < b → control b ≡ b % 32
 unfolding control
 control-mod b h = rw (ne-eqb b 63 (omega arith))
-
-pub digit-small : (b : ℕ) → b < 56 → b - 48 < 8
-digit-small b h = omega arith
 
 -- ---- a line's size by its length: oneDigit more if its last field is open
 

@@ -41,10 +41,6 @@ module _ (f : List ℕ) (fs : List (List ℕ)) where
   unfolding judge judged
   judge-after n e h = rw (e, h)
 
-  pub ignored-on : reading f ≡ ignored → allIgnored (f ∷ fs) ≡ allIgnored fs
-  unfolding allIgnored isIgnoredField
-  ignored-on e = rw e
-
   pub ignored-not : isIgnoredField (reading f) ≡ false → allIgnored (f ∷ fs) ≡ false
   unfolding allIgnored
   ignored-not e = rw e

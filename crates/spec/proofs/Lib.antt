@@ -22,3 +22,4 @@ pub mod FlatLine
 pub mod PaddingLaws
 pub mod KindNumbers
 pub mod Stores
+pub mod ListingBounds

@@ -1,4 +1,5 @@
--- What is known of a field that is read as an entry: its name is an id, and its value is not much longer than it.
+-- What is known of a field that is read as an entry: its first two bytes are its name, which is an id, and its value is not much longer
+-- than it.
 -- Assumes nothing.
 use Prim.Native.Nat.{ℕ, suc, _+_, _-_, _*_, _≤_}
 use mathlib.Core.Path.{_≡_, refl}
@@ -62,6 +63,7 @@ decode-short (twoDigits v) (b ∷ l) d e =
 -- ---- entries
 
 pub record Entered (t : List ℕ) (a b : ℕ) (s : Content) : Type 0 where
+  pub start : (l : List ℕ) × (t ≡ a ∷ b ∷ l)
   pub id : idBytes a b ≡ true
   pub bound : contentValue s ≤ 65535 + length t
 
@@ -124,7 +126,7 @@ named-entered x (y ∷ l) a b s e = go (isTc x y) (idBytes x y) refl e
     go true i h q = absurd (not-linked l a b s q)
     go false true h q =
         let w = valued-is x y l a b s q in
-        record { id = rw (w .0, w .1) h; bound = omega (arith, w .2) }
+        record { start = (l, rw (w .0, w .1)); id = rw (w .0, w .1) h; bound = omega (arith, w .2) }
     go false false h q = let z : _≡_ {A = ℕ} 0 1 = cc in absurd (omega arith)
 
 pub reading-entered : (t : List ℕ) (a b : ℕ) (s : Content) → reading t ≡ capability a b s → Entered t a b s

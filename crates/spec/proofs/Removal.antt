@@ -128,9 +128,6 @@ unfolding byRemoval texts
 removal-same [] h = refl
 removal-same (f ∷ fs) h = rw (h .0, removal-same fs (h .2), without-same (reading (f .text)) fs (h .1))
 
-pub removal-twice : (fs : List Field) → byRemoval (byRemoval fs) ≡ byRemoval fs
-removal-twice fs = removal-same (byRemoval fs) (removal-wins fs)
-
 -- It ends its chain.
 pub win-judge : (ts : List (List ℕ)) → AllWin ts → judge ts ≡ noLink
 unfolding judge
@@ -210,11 +207,6 @@ pub lookup-before-removal : (id : List ℕ) (k : ℕ) → 0 < k → (fs gs : Lis
 unfolding lookup
 lookup-before-removal id k z [] gs = lookup-removal id k z gs
 lookup-before-removal id k z (f ∷ fs) gs = rw (lookup-before-removal id k z fs gs)
-
-pub removal-before : (fs gs : List Field) → byRemoval (fs ++ byRemoval gs) ≡ byRemoval (fs ++ gs)
-unfolding byRemoval
-removal-before [] gs = removal-twice gs
-removal-before (f ∷ fs) gs = rw (removal-before fs gs)
 
 -- ---- what the fields have, those that are left have
 

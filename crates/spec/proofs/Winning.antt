@@ -4,18 +4,19 @@
 use Prim.Native.Nat.{ℕ, _+_, _≤_, _<_}
 use mathlib.Core.Path.{_≡_, refl, _∙_, ap, sym}
 use mathlib.Core.Bool.{Bool, true, false, not}
-use mathlib.Core.List.{List, [], _∷_, _++_}
+use mathlib.Core.List.{List, [], _∷_, _++_, append-nil}
 use borrow.Author.Tests.{eq-eqb}
 use Rattle.spec.specs.Choice.{pick, both, either}
 use Rattle.spec.specs.Fields.{Reading, capability, Content, reading, contentKind, size}
 use Rattle.spec.specs.Chain.{Field, texts}
-use Rattle.spec.specs.Lookup.{hit, matches, lookup, canWin, hides, hidden, winningAfter, winning}
-use Rattle.spec.proofs.Tests.{clash, both-false}
+use Rattle.spec.specs.Lookup.{none, hit, matches, lookup, canWin, hides, hidden, winningAfter, winning, readBefore, met}
+use Rattle.spec.proofs.Tests.{clash}
 use Rattle.spec.proofs.AcceptedChain.{Sound}
 use Rattle.spec.proofs.WholeLines.{AllFree, equal-same}
-use Rattle.spec.proofs.Removal.{without, byRemoval, win-no-cancel, AllWin, removal-wins, removal-same, removal-free, removal-size, removal-sound, removal-before, lookup-removal, lookup-before-removal, lookup-cancel, lookup-hit, lookup-on}
+use Rattle.spec.proofs.Removal.{without, byRemoval, win-no-cancel, AllWin, removal-wins, removal-same, removal-free, removal-size, removal-sound}
+use Rattle.spec.proofs.Removal.{lookup-removal, lookup-before-removal, lookup-cancel, lookup-hit, lookup-on}
 
--- Whether a cancel of the name, or a field of the name and kind, was passed: what a table with a place for each name and kind holds.
+-- Whether a cancel of the name, or a field of the name and kind, was passed.
 unfoldable pub stopped : List ℕ → ℕ → List Reading → Bool
 stopped id k [] = false
 stopped id k (q ∷ qs) = either (either (matches id 0 q) (matches id k q)) (stopped id k qs)
@@ -62,11 +63,7 @@ pub winning-is-removal : (fs : List Field) → winning fs ≡ byRemoval fs
 unfolding winning
 winning-is-removal fs = after-thin [] fs ∙ thin-none (byRemoval fs)
 
--- A table with a place for each name and kind, the cancel's too, holds `met`.
-unfoldable pub met : List ℕ → ℕ → List Reading → Bool
-met id k [] = false
-met id k (q ∷ qs) = either (matches id k q) (met id k qs)
-
+-- Either a cancel of the name was met, or a field of the name and kind.
 pub stopped-met : (id : List ℕ) (k : ℕ) (qs : List Reading) → stopped id k qs ≡ either (met id 0 qs) (met id k qs)
 unfolding stopped met
 stopped-met id k [] = refl
@@ -77,30 +74,6 @@ stopped-met id k (q ∷ qs) = rw (stopped-met id k qs) (swap (matches id 0 q) (m
     swap false true true n = refl
     swap false true false n = refl
     swap false false m n = refl
-
-module _ (id : List ℕ) (k : ℕ) (q : Reading) (qs : List Reading) where
-  pub met-here : matches id k q ≡ true → met id k (q ∷ qs) ≡ true
-  unfolding met
-  met-here e = rw e
-
-  pub met-on : matches id k q ≡ false → met id k (q ∷ qs) ≡ met id k qs
-  unfolding met
-  met-on e = rw e
-
--- ---- a field passed
-
-module _ (qs : List Reading) (f : Field) (fs : List Field) where
-  pub after-win : canWin (reading (f .text)) ≡ true → hidden qs (reading (f .text)) ≡ false → winningAfter qs (f ∷ fs) ≡ f ∷ winningAfter (reading (f .text) ∷ qs) fs
-  unfolding winningAfter
-  after-win e h = rw (e, h)
-
-  pub after-hidden : hidden qs (reading (f .text)) ≡ true → winningAfter qs (f ∷ fs) ≡ winningAfter (reading (f .text) ∷ qs) fs
-  unfolding winningAfter
-  after-hidden h = rw (h, both-false (canWin (reading (f .text))))
-
-  pub after-other : canWin (reading (f .text)) ≡ false → winningAfter qs (f ∷ fs) ≡ winningAfter (reading (f .text) ∷ qs) fs
-  unfolding winningAfter
-  after-other e = rw e
 
 -- ---- the laws of the winning fields
 
@@ -114,9 +87,6 @@ module _ (fs : List Field) where
   pub winning-free : (c : ℕ) → AllFree c (texts fs) → AllFree c (texts (winning fs))
   winning-free c h = rw (winning-is-removal fs) (removal-free c fs h)
 
-  pub winning-size : size (texts (winning fs)) ≤ size (texts fs)
-  winning-size = rw (winning-is-removal fs) (removal-size fs)
-
   pub winning-sound : (name names : List ℕ) → Sound name names (texts fs) → Sound name names (texts (winning fs))
   winning-sound name names k = rw (winning-is-removal fs) (removal-sound name names fs k)
 
@@ -124,19 +94,7 @@ module _ (fs : List Field) where
   pub lookup-winning : (id : List ℕ) (k : ℕ) → 0 < k → lookup id k (winning fs) ≡ lookup id k fs
   lookup-winning id k z = rw (winning-is-removal fs) (lookup-removal id k z fs)
 
--- fields before others: only the winning ones of the others count
-pub lookup-before : (id : List ℕ) (k : ℕ) → 0 < k → (fs gs : List Field) → lookup id k (fs ++ winning gs) ≡ lookup id k (fs ++ gs)
-lookup-before id k z fs gs = rw (winning-is-removal gs) (lookup-before-removal id k z fs gs)
-
-pub winning-before : (fs gs : List Field) → winning (fs ++ winning gs) ≡ winning (fs ++ gs)
-winning-before fs gs = rw (winning-is-removal (fs ++ winning gs), winning-is-removal (fs ++ gs), winning-is-removal gs) (removal-before fs gs)
-
 -- ---- a winning field is the answer for its own name and kind; a field that does not win leaves the answer of those before it
-
--- The readings of fields, those of later ones first, before `earlier`.
-unfoldable pub readBefore : List Reading → List Field → List Reading
-readBefore earlier [] = earlier
-readBefore earlier (f ∷ fs) = readBefore (reading (f .text) ∷ earlier) fs
 
 pub winning-after : (qs : List Reading) (fs gs : List Field) → winningAfter qs (fs ++ gs) ≡ winningAfter qs fs ++ winningAfter (readBefore qs fs) gs
 unfolding winningAfter readBefore
@@ -193,6 +151,13 @@ module _ (before : List Field) (f : Field) (after : List Field) (a b : ℕ) (c :
       let s : stopped (a ∷ b ∷ []) (contentKind c) (readBefore [] before) ≡ false = sym (hidden-capability (readBefore [] before) a b c) ∙ rw (← reads) h in
       lookup-open (a ∷ b ∷ []) (contentKind c) (f ∷ after) [] before s .1
       ∙ lookup-hit (a ∷ b ∷ []) (contentKind c) f after (win-no-cancel (a ∷ b ∷ []) (reading (f .text)) wins) own
+
+  -- nothing before it answers
+  pub winner-first : hidden (readBefore [] before) (reading (f .text)) ≡ false → lookup (a ∷ b ∷ []) (contentKind c) before ≡ none
+  unfolding lookup
+  winner-first h =
+      let s : stopped (a ∷ b ∷ []) (contentKind c) (readBefore [] before) ≡ false = sym (hidden-capability (readBefore [] before) a b c) ∙ rw (← reads) h in
+      rw (append-nil before) at (lookup-open (a ∷ b ∷ []) (contentKind c) [] [] before s .1)
 
   pub loser-passed : hidden (readBefore [] before) (reading (f .text)) ≡ true → lookup (a ∷ b ∷ []) (contentKind c) (before ++ f ∷ after) ≡ lookup (a ∷ b ∷ []) (contentKind c) before
   unfolding stopped

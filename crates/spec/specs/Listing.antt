@@ -1,5 +1,5 @@
 -- List and Flat: from the inputs and the lent buffer to the answer and the buffer afterwards.
-use Prim.Native.Nat.{ℕ, _/_, _%_}
+use Prim.Native.Nat.{ℕ, _+_, _-_, _*_, _/_, _%_, _≤_}
 use mathlib.Core.List.{List, [], _∷_, _++_}
 use lib.ListN.{length}
 use Rattle.spec.specs.Fields.{Reading, malformed, ignored, link, capability, reading, withColons, contentKind, contentValue}
@@ -46,3 +46,27 @@ flatFor (terminal names fs) buffer = put (flatText names fs) (length (flatText n
 
 unfoldable pub flatOutcome : List ℕ → List ℕ → List ℕ → Outcome Written
 flatOutcome db name buffer = flatFor (terminalOf db name) buffer
+
+-- ---- what an accepted chain can need at most
+
+-- Winning fields. The chain's size is at most 16,384; the first line's names are at least one byte, as a name is, and 1 is added to them; a
+-- winning field is at least two bytes, and 1 is added to it.
+abbrev pub mostWinning : ℕ
+mostWinning = (16384 - 2) / 3
+
+abbrev pub recordSize : ℕ
+recordSize = 8
+
+-- 43,680 bytes of records.
+abbrev pub mostRecordBytes : ℕ
+mostRecordBytes = mostWinning * recordSize
+
+-- Flat is no longer than the chain's size, but for its newline.
+abbrev pub mostFlatBytes : ℕ
+mostFlatBytes = 16384 + 1
+
+-- So it is for every terminal that is not refused (proofs/ListingBounds).
+pub record Bounded (names : List ℕ) (fs : List Field) : Type 0 where
+  pub winning-fields : length (winning fs) ≤ mostWinning
+  pub record-bytes : length (records (winning fs)) ≤ mostRecordBytes
+  pub flat-bytes : length (flatText names fs) ≤ mostFlatBytes

@@ -1,6 +1,6 @@
 -- "Lookup, List and Flat": which field answers for an id and a kind, and which fields win.
 use Prim.Native.Nat.{ℕ}
-use mathlib.Core.Bool.{Bool, false, not}
+use mathlib.Core.Bool.{Bool, true, false, not}
 use mathlib.Core.List.{List, [], _∷_}
 use lib.Dec.{eqb}
 use Rattle.spec.specs.Choice.{pick, both, either}
@@ -28,7 +28,15 @@ lookup id k (f ∷ fs) =
     (pick (matches id k (reading (f .text))) (hit (f .text))
     (lookup id k fs))
 
--- ---- winning fields; a pair of name and kind is live if one of them has it
+-- "Where the answer is present ... the pair is live."
+abbrev pub isPresent : Hit → Bool
+isPresent none = false
+isPresent (hit f) = true
+
+abbrev pub isLive : List ℕ → ℕ → List Field → Bool
+isLive id k fs = isPresent (lookup id k fs)
+
+-- ---- winning fields
 
 -- Whether a field can win at all: it is a flag, a number or a string; "a cancel never does".
 unfoldable pub canWin : Reading → Bool
@@ -57,9 +65,21 @@ winningAfter earlier (f ∷ fs) =
     pick (both (canWin (reading (f .text))) (not (hidden earlier (reading (f .text))))) (f ∷ rest) rest
 
 -- "Where the answer is present, that first field is the winning field of the pair of name and kind, and the pair is live; no other
--- field wins." (proofs/Winning: it is the field that `lookup` gives for its own name and kind.)
+-- field wins." (The statement `WinningFields` of the crate demands says the same by `lookup` alone.)
 unfoldable pub winning : List Field → List Field
 winning fs = winningAfter [] fs
+
+-- ---- what was read before
+
+-- The readings of fields, those of later ones first, before `earlier`.
+unfoldable pub readBefore : List Reading → List Field → List Reading
+readBefore earlier [] = earlier
+readBefore earlier (f ∷ fs) = readBefore (reading (f .text) ∷ earlier) fs
+
+-- Whether a field of that name and kind (0: a cancel of that name) is among those that were read.
+unfoldable pub met : List ℕ → ℕ → List Reading → Bool
+met id k [] = false
+met id k (q ∷ qs) = either (matches id k q) (met id k qs)
 
 -- ---- the value of a field, and its decoded bytes
 

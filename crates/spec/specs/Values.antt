@@ -41,10 +41,6 @@ raised b =
     (record { byte = b + 1; compensations = 1 })
     (record { byte = b; compensations = 0 })
 
--- The most compensations that one byte asks for.
-abbrev pub mostCompensations : ℕ
-mostCompensations = 1
-
 -- Whether a parameter's byte is raised at all: by its axis.
 abbrev pub raises : Raising → Parameter → Bool
 raises g (Row r) = g .rows

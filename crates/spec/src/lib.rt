@@ -6,6 +6,9 @@ ghost use Rattle.spec.specs.Fields.{kindNumber, kindOf};
 
 pub mod position;
 
+// A database of more bytes is refused with 3.
+pub const MOST_BYTES: usize = 1048576;
+
 // Why a call is refused. specs/Refusals gives each its number.
 pub enum Refusal {
     BadName,

@@ -1,133 +1,247 @@
-// Prints the listing of a terminal: `tclist FILE`, with the terminal's name on the first line of standard input. Each record is a line,
-// its bytes in decimal; a refusal is its number alone. FILE has at most 65,536 bytes: a larger one is reported, not searched.
+// Prints the listing of a terminal: `tclist FILE`, with the terminal's name on the first line of standard input. What goes wrong is
+// reported on standard error, and then nothing is printed. A program has no exit status to tell it by.
+use bytes::scan::find;
+use check::same;
 use libc::STDERR_FILENO;
 use libc::STDIN_FILENO;
 use libc::STDOUT_FILENO;
 use listing::list;
+use spec::Refusal;
 use spec::Written;
 use stores::put_byte;
-ghost use Prim.Native.Nat.{_+_, _≤_};
+use stores::put_bytes;
+ghost use Prim.Native.Nat.{_+_, _*_, _≤_};
+ghost use mathlib.Core.Path.{_≡_};
 ghost use lib.ListN.{length};
+ghost use lib.Seq.{sets};
+ghost use Rattle.io.specs.Counts.{Counts};
+ghost use Rattle.spec.specs.Digits.{written};
+ghost use Rattle.spec.specs.Listing.{listOutcome};
+ghost use Rattle.spec.specs.declared.Written.the-variants.{Refused};
+ghost use Rattle.tclist.specs.Output.{separatorOf, decimals, answerText, PutText, Within, MoreRead, LineRead};
 
-// A byte in decimal, from a place of a line on; the place behind it.
-fn put_decimal(line: &mut [u8], at: usize, b: u8) -> usize
-    requires { ⌜ at ≤ 1000 ⌝ }
-    ensures { λ r. ⌜ r ≤ at + 3 ⌝ }
+// The most bytes of a file that is searched, and room to see that a file has more.
+const MOST_BYTES: usize = 65536;
+
+const FILE_ROOM: usize = 65537;
+
+// One byte more than a good name has: a longer line is refused as its first bytes are.
+const NAME_ROOM: usize = 65;
+
+// 5,460 records can be live, so that the room never refuses a listing. A byte takes three digits and a separator at most.
+const RECORD_BYTES: usize = 8;
+
+const RECORDS_ROOM: usize = 43680;
+
+const TEXT_ROOM: usize = 174724;
+
+// ---- the text of an answer
+
+// A byte in decimal, from a place on; the place after it.
+fn put_decimal(out: &mut [u8], at: usize, b: u8) -> usize
+    requires { ⌜ at ≤ 1000000 ⌝ }
+    ensures { λ r. ⌜ (r ≡ at + length (written 10 1 b)) × (now (out .exit) ≡ sets (now (out .entry)) at (written 10 1 b)) ⌝ }
 {
-    if b < 10 {
-        put_byte(line, at, 48 + b);
-        return at + 1;
-    }
-    if b < 100 {
-        put_byte(line, at, 48 + b / 10);
-        put_byte(line, at + 1, 48 + b % 10);
-        return at + 2;
-    }
-    put_byte(line, at, 48 + b / 100);
-    put_byte(line, at + 1, 48 + b / 10 % 10);
-    put_byte(line, at + 2, 48 + b % 10);
-    at + 3
+    let mut digits = [0u8; 20];
+    let k = io::decimal(b as u64, &mut digits);
+    put_bytes(out, at, &digits[..k]);
+    at + k
 }
 
-// The byte after the k-th of a record: a space, or the newline after the last.
-fn separator(k: usize) -> u8 {
-    if k == 7 {
-        return 10;
+// What stands after a byte of the records: a newline after the last one of a record.
+fn separator(k: usize) -> u8
+    ensures { λ r. ⌜ r ≡ separatorOf k ⌝ }
+{
+    if k % RECORD_BYTES == 7 {
+        return b'\n';
     }
-    32
+    b' '
 }
 
-// Prints the record whose first byte is at a place.
-fn print_record(records: &[u8], at: usize)
-    requires { ⌜ at + 8 ≤ length (now records) ⌝ }
+fn put_records(records: &[u8], out: &mut [u8]) -> usize
+    requires { ⌜ length (now records) ≤ 43680 ⌝ }
+    ensures { λ r. ⌜ PutText (decimals 0 (now (records .entry))) r (now (out .entry)) (now (out .exit)) ⌝ }
+    ensures { λ r. ⌜ r ≤ 4 * length (now (records .entry)) ⌝ }
 {
-    let mut line = [0u8; 32];
-    let mut end = 0;
+    let mut n = 0;
     let mut k = 0;
-    while k < 8 {
-        end = put_decimal(&mut line, end, records[at + k]);
-        put_byte(&mut line, end, separator(k));
-        end += 1;
+    while k < records.len() {
+        let end = put_decimal(out, n, records[k]);
+        put_byte(out, end, separator(k));
+        n = end + 1;
         k += 1;
     }
-    io::write_all(STDOUT_FILENO, &line[..end]);
+    n
 }
 
-fn print_records(records: &[u8], count: usize) {
-    let mut at = 0;
-    let mut left = count;
-    while left > 0 {
-        if records.len() - at < 8 {
-            return;
-        }
-        print_record(records, at);
-        at += 8;
-        left -= 1;
-    }
-}
-
-// 5,460 records can be live, so that the room never refuses a listing.
-fn print_listing(db: &[u8], name: &[u8]) {
-    let mut records = [0u8; 43680];
-    match list(db, name, &mut records) {
-        Written::Count(n) => print_records(&records, n),
-        Written::Refused(r) => {
-            io::print_decimal(STDOUT_FILENO, r.number() as u64);
-            io::write_all(STDOUT_FILENO, b"\n");
-        }
-    }
-}
-
-// How many bytes stand before the first newline.
-fn first_line(text: &[u8]) -> usize
-    ensures { λ r. ⌜ r ≤ length (now (text .entry)) ⌝ }
+fn put_refusal(r: Refusal, out: &mut [u8]) -> usize
+    ensures { λ n. ⌜ PutText (answerText (Refused r) (now (out .entry))) n (now (out .entry)) (now (out .exit)) ⌝ }
+    ensures { λ n. ⌜ n ≤ 4 ⌝ }
 {
-    let mut i = 0;
-    while i < text.len() {
-        if text[i] == 10 {
-            return i;
-        }
-        i += 1;
-    }
-    i
+    let end = put_decimal(out, 0, r.number());
+    put_byte(out, end, b'\n');
+    end + 1
 }
 
-// Takes the name from standard input. What does not fit the buffer makes a name too long in any case.
+// The listing's text at the start of a buffer, by way of the records.
+fn put_listing(db: &[u8], name: &[u8], records: &mut [u8], out: &mut [u8]) -> usize
+    requires { ⌜ (length (now records) ≤ 43680) × (174724 ≤ length (now out)) ⌝ }
+    ensures { λ r. ⌜ PutText (answerText (listOutcome (now (db .entry)) (now (name .entry)) (now (records .entry)) .answer)
+        (listOutcome (now (db .entry)) (now (name .entry)) (now (records .entry)) .buffer)) r (now (out .entry)) (now (out .exit)) ⌝ }
+    ensures { λ r. ⌜ Counts r (now (out .exit)) ⌝ }
+{
+    match list(db, name, records) {
+        Written::Count(n) => put_records(&records[..RECORD_BYTES * n], out),
+        Written::Refused(r) => put_refusal(r, out),
+    }
+}
+
+// ---- reading and writing: what is read or written no contract can say
+
+// What was read into a buffer: so many bytes.
+enum Input {
+    Bytes(usize),
+    Failed,
+}
+
+// Writes a line to standard error: what failed, and the reason that the system gives.
+fn fail(what: &[u8]) {
+    io::write_all(STDERR_FILENO, b"tclist: ");
+    os::fail(what);
+}
+
+fn print(text: &[u8]) {
+    if !io::write_all(STDOUT_FILENO, text) {
+        fail(b"standard output");
+    }
+}
+
+// One read, after the bytes that were read before it. Where none is added, the input has ended.
+fn read_more(file: i32, buffer: &mut [u8], used: usize) -> Input
+    requires { ⌜ used ≤ length (now buffer) ⌝ }
+    ensures { λ r. ⌜ MoreRead used r (now (buffer .exit)) ⌝ }
+{
+    let got = libc::read(file, &mut buffer[used..]);
+    if got < 0 {
+        return Input::Failed;
+    }
+    let more = io::count(got, &buffer[used..]);
+    Input::Bytes(used + more)
+}
+
+// Reads until the file ends or the buffer is full.
+fn read_file(file: i32, buffer: &mut [u8]) -> Input
+    ensures { λ r. ⌜ Within r (now (buffer .exit)) ⌝ }
+{
+    let mut used = 0;
+    while used < buffer.len() {
+        let Input::Bytes(n) = read_more(file, buffer, used) else {
+            return Input::Failed;
+        };
+        if n == used {
+            return Input::Bytes(n);
+        }
+        used = n;
+    }
+    Input::Bytes(used)
+}
+
+// Reads until a newline is there, the input ends or the buffer is full: the bytes before the newline.
+fn read_line(file: i32, buffer: &mut [u8]) -> Input
+    ensures { λ r. ⌜ LineRead r (now (buffer .exit)) ⌝ }
+{
+    let mut used = 0;
+    while used < buffer.len() {
+        let Input::Bytes(n) = read_more(file, buffer, used) else {
+            return Input::Failed;
+        };
+        let end = find(buffer, 0, n, b'\n');
+        if end < n {
+            return Input::Bytes(end);
+        }
+        if n == used {
+            return Input::Bytes(end);
+        }
+        used = n;
+    }
+    Input::Bytes(used)
+}
+
+// ---- the program
+
+fn print_listing(db: &[u8], name: &[u8]) {
+    let mut records = [0u8; RECORDS_ROOM];
+    let mut text = [0u8; TEXT_ROOM];
+    let n = put_listing(db, name, &mut records, &mut text);
+    print(&text[..n]);
+}
+
 fn list_asked(db: &[u8]) {
-    let mut input = io::buffer();
-    let got = io::read_full(STDIN_FILENO, &mut input);
-    let end = first_line(&input[..got]);
-    print_listing(db, &input[..end]);
+    let mut name = [0u8; NAME_ROOM];
+    match read_line(STDIN_FILENO, &mut name) {
+        Input::Bytes(n) => print_listing(db, &name[..n]),
+        Input::Failed => fail(b"standard input"),
+    }
+}
+
+fn list_database(path: &[u8], db: &[u8]) {
+    if db.len() > MOST_BYTES {
+        io::write_all(STDERR_FILENO, b"tclist: ");
+        io::write_all(STDERR_FILENO, path);
+        io::write_all(STDERR_FILENO, b": more than 65536 bytes\n");
+        return;
+    }
+    list_asked(db);
 }
 
 fn list_file(path: &[u8]) {
     let file = os::open_read(path);
     if file < 0 {
-        os::fail(path);
+        fail(path);
         return;
     }
-    let mut db = [0u8; 65537];
-    let size = io::read_full(file, &mut db);
-    libc::close(file);
-    if size > 65536 {
-        io::write_all(
-            STDERR_FILENO,
-            b"tclist: the file has more than 65536 bytes\n",
-        );
-        return;
+    let mut db = [0u8; FILE_ROOM];
+    match read_file(file, &mut db) {
+        Input::Bytes(n) => {
+            libc::close(file);
+            list_database(path, &db[..n]);
+        }
+        Input::Failed => {
+            fail(path);
+            libc::close(file);
+        }
     }
-    list_asked(&db[..size]);
+}
+
+fn print_usage() {
+    print(
+        b"usage: tclist FILE
+Prints the listing of the terminal that the first line of standard input names.
+FILE is a termcap database of at most 65536 bytes. Each record is printed on a
+line of its own, its bytes in decimal; a refusal is printed as its number alone.
+What goes wrong is reported on standard error, and then nothing is printed.
+The exit status says nothing: it is 0 in every case.
+",
+    );
 }
 
 fn main() {
-    if os::arg_count() < 2 {
+    if os::arg_count() != 2 {
         io::write_all(
             STDERR_FILENO,
-            b"usage: tclist FILE, with a terminal's name on standard input\n",
+            b"tclist: one argument is wanted, the file; tclist --help says more\n",
         );
         return;
     }
     let mut path = io::buffer();
     let n = os::arg(1, &mut path);
+    if os::errno() != 0 {
+        fail(&path);
+        return;
+    }
+    if same(&path[..n], b"--help") {
+        print_usage();
+        return;
+    }
     list_file(&path[..n]);
 }

@@ -1,14 +1,19 @@
-// The library in one place: the operations of document 01 with their answers, and the C functions, which give each result as a number. A
-// slice passes to C as a pointer and a length. (The opened reader is the crate `reader`.)
+// The library in one place: the operations of document 01 with their answers, the opened reader, and the C functions, which give each
+// result as a number. A slice passes to C as a pointer and a length; the reader has no C functions.
 pub use listing::flat;
 pub use listing::list;
 pub use questions::flag;
 pub use questions::number;
-pub use questions::show;
-pub use questions::show_part;
 pub use questions::string;
+pub use reader::Reader;
+pub use reader::flag as reader_flag;
+pub use reader::number as reader_number;
+pub use reader::open as reader_open;
+pub use reader::show as reader_show;
 pub use sending::send;
 pub use sending::send_at;
+pub use show::show;
+pub use show::show_part;
 pub use spec::Answer;
 pub use spec::Kind;
 pub use spec::Refusal;

@@ -4,7 +4,7 @@ use mathlib.Core.Path.{_≡_, refl, sym, _∙_}
 use native.Mathlib.Omega.{arith}
 use borrow.Author.Needs.{needs}
 use lib.ListN.{length, drop, length-set, drop-of-length-le}
-use lib.Seq.{sets}
+use lib.Seq.{sets, length-take-le}
 use Rattle.case_lines.specs.Fields.{bytesOf, textOf}
 use Rattle.case_lines.proofs.LineSteps.{sets-full, sets-next}
 use Rattle.case_lines.proofs.text.Statement.{statement}
@@ -31,8 +31,10 @@ same-length c = search needs
 
 returns : tie.Need-returns Inv-loop μ-loop
 returns c =
-    let l = c .before .before .loop in
-    (omega arith, sym (sets-full (bytesOf (drop (l .i) (c .before .before .before .field .result .now))) (l .out) (l .n) (omega arith)) ∙ l .inv .0)
+    let l = c .before .before .loop in (
+      (omega arith, sym (sets-full (bytesOf (drop (l .i) (c .before .before .before .field .result .now))) (l .out) (l .n) (omega arith)) ∙ l .inv .0),
+      (l .inv .2, sym (length-take-le _ _ (l .inv .2))),
+    )
 
 decode-requires : tie.Need-decode-requires Inv-loop μ-loop
 decode-requires c κs = search needs
@@ -59,7 +61,7 @@ returns-2 : tie.Need-returns-2 Inv-loop μ-loop
 unfolding bytesOf
 returns-2 c =
     let i = rw (drop-of-length-le _ (c .loop-test .left)) at (c .before .loop .inv) in
-    (omega arith, i .0)
+    ((omega arith, i .0), (i .2, sym (length-take-le _ _ (i .2))))
 
 pub text-spec : {M : Type 1} → statement M
 text-spec =

@@ -21,8 +21,8 @@ loop-holds c = record { sized = omega arith; verdict = refl }
 next-field-requires : tie.Need-next-field-requires Inv-loop μ-loop
 next-field-requires c κs = search needs
 
-enum-known-n : tie.Need-enum-known-n Inv-loop μ-loop
-enum-known-n c = search needs
+enum-known-read : tie.Need-enum-known-read Inv-loop μ-loop
+enum-known-read c = search needs
 
 enum-told : tie.Need-enum-told Inv-loop μ-loop
 enum-told c = search needs
@@ -34,49 +34,49 @@ returns c =
 
 add-size : tie.Need-add-size Inv-loop μ-loop
 add-size c =
-    let p = rw (c .before .n .given .1) at (c .before .before .before .next-field .ensures) in
-    omega (arith, sized-room _ _ _ _ (c .before .before .before .before .loop .inv .sized) _ _ (p .0) (p .1))
+    let p = rw (c .before .read .given .1) at (c .before .before .before .next-field .ensures) in
+    omega (arith, sized-room _ _ _ _ (c .before .before .before .before .loop .inv .sized) _ _ (p .0) (p .2))
 
 add-size-2 : tie.Need-add-size-2 Inv-loop μ-loop
 add-size-2 c =
-    let p = rw (c .before .n .given .1) at (c .before .before .before .next-field .ensures) in
-    omega (arith, sized-room _ _ _ _ (c .before .before .before .before .loop .inv .sized) _ _ (p .0) (p .1))
-
-read-field-requires : tie.Need-read-field-requires Inv-loop μ-loop
-read-field-requires c κs = search needs
+    let p = rw (c .before .read .given .1) at (c .before .before .before .next-field .ensures) in
+    omega (arith, sized-room _ _ _ _ (c .before .before .before .before .loop .inv .sized) _ _ (p .0) (p .2))
 
 enum-told-2 : tie.Need-enum-told-2 Inv-loop μ-loop
 enum-told-2 c = search needs
 
 returns-2 : tie.Need-returns-2 Inv-loop μ-loop
 returns-2 c =
-    let p = rw (c .before .before .before .before .n .given .1) at (c .before .before .before .before .before .before .next-field .ensures) in
-    let q = rw (c .enum-told2 .given .1) at (c .before .before .read-field .ensures) in
-    judging-malformed _ _ _ (c .before .before .before .before .before .before .before .loop .inv) 0 _ (p .0) q
+    let p = rw (c .before .before .before .read .given .1) at (c .before .before .before .before .before .next-field .ensures) in
+    let q = rw (c .enum-told2 .given .1) at (p .1) in
+    judging-malformed _ _ _ (c .before .before .before .before .before .before .loop .inv) 0 _ (p .0) q
 
-enum-known-name : tie.Need-enum-known-name Inv-loop μ-loop
-enum-known-name c = search needs
+enum-known-read-2 : tie.Need-enum-known-read-2 Inv-loop μ-loop
+enum-known-read-2 c = search needs
 
 judge-after-link-requires : tie.Need-judge-after-link-requires Inv-loop μ-loop
 judge-after-link-requires c κs =
-    let p = rw (c .before .before .before .before .before .n .given .1) at (c .before .before .before .before .before .before .before .next-field .ensures) in
-    omega (arith, sized-room _ _ _ _ (c .before .before .before .before .before .before .before .before .loop .inv .sized) _ _ (p .0) (p .1))
+    let p = rw (c .before .before .before .before .read .given .1) at (c .before .before .before .before .before .before .next-field .ensures) in
+    omega (arith, sized-room _ _ _ _ (c .before .before .before .before .before .before .before .loop .inv .sized) _ _ (p .0) (p .2))
 
 returns-3 : tie.Need-returns-3 Inv-loop μ-loop
 returns-3 c =
-    let p = rw (c .before .before .before .before .before .before .n .given .1) at (c .before .before .before .before .before .before .before .before .next-field .ensures) in
-    let q = rw (c .before .before .name .given .1) at (c .before .before .before .before .read-field .ensures) in
-    rw (c .judge-after-link .ensures) (judging-link _ _ _ (c .before .before .before .before .before .before .before .before .before .loop .inv) _ _ (p .0) _ (p .1) q)
+    let told = c .before .before .before .before .before .before .before .next-field .ensures in
+    let p = rw (c .before .before .before .before .before .read .given .1) at told in
+    let q = rw (c .before .before .read2 .given .1) at (p .1) in
+    let inv = c .before .before .before .before .before .before .before .before .loop .inv in
+    rw (c .judge-after-link .ensures) (judging-link _ _ _ inv _ _ (p .0) _ (p .2) q)
 
 loop-less : tie.Need-loop-less Inv-loop μ-loop
 loop-less c =
-    let p = rw (c .before .before .before .n .given .1) at (c .before .before .before .before .before .next-field .ensures) in
+    let p = rw (c .before .before .read .given .1) at (c .before .before .before .before .next-field .ensures) in
     omega arith
 
 loop-again : tie.Need-loop-again Inv-loop μ-loop
 loop-again c =
-    let p = rw (c .before .before .before .n .given .1) at (c .before .before .before .before .before .next-field .ensures) in
-    judging-on _ _ _ (c .before .before .before .before .before .before .loop .inv) _ _ (p .0) (p .1) (judge-on _ _ _ (c .before .read-field .result) (c .before .read-field .ensures) (c .match2 .keys3))
+    let p = rw (c .before .before .read .given .1) at (c .before .before .before .before .next-field .ensures) in
+    let inv = c .before .before .before .before .before .loop .inv in
+    judging-on _ _ _ inv _ _ (p .0) (p .2) (judge-on _ _ _ (c .before .before .read .given .0 .0) (p .1) (c .match2 .keys3))
 
 pub judge-fields-spec : {M : Type 1} → statement M
 judge-fields-spec =
@@ -86,15 +86,14 @@ judge-fields-spec =
     μ-loop
     loop-holds
     next-field-requires
-    enum-known-n
+    enum-known-read
     enum-told
     returns
     add-size
     add-size-2
-    read-field-requires
     enum-told-2
     returns-2
-    enum-known-name
+    enum-known-read-2
     judge-after-link-requires
     returns-3
     loop-less

@@ -46,13 +46,15 @@ enum-known-size c = search needs
 
 add-t15 : tie.Need-add-t15
 add-t15 c =
-    let p = rw (c .before .before .before .before .before .before .fields .given .1) at (c .before .before .before .before .before .before .before .before .after-names .ensures) in
+    let told = c .before .before .before .before .before .before .before .before .after-names .ensures in
+    let p = rw (c .before .before .before .before .before .before .fields .given .1) at told in
     let q = rw (c .before .size .given .1) at (c .before .before .before .judge-fields .ensures) in
     omega (arith, part-room _ _ _ _ p, q .1)
 
 add-t16 : tie.Need-add-t16
 add-t16 c =
-    let p = rw (c .before .before .before .before .before .before .fields .given .1) at (c .before .before .before .before .before .before .before .before .after-names .ensures) in
+    let told = c .before .before .before .before .before .before .before .before .after-names .ensures in
+    let p = rw (c .before .before .before .before .before .before .fields .given .1) at told in
     let q = rw (c .before .size .given .1) at (c .before .before .before .judge-fields .ensures) in
     omega (arith, part-room _ _ _ _ p, q .1)
 
@@ -61,37 +63,43 @@ enum-known-size-2 c = search needs
 
 add-t17 : tie.Need-add-t17
 add-t17 c =
-    let p = rw (c .before .before .before .before .before .before .fields .given .1) at (c .before .before .before .before .before .before .before .before .after-names .ensures) in
+    let told = c .before .before .before .before .before .before .before .before .after-names .ensures in
+    let p = rw (c .before .before .before .before .before .before .fields .given .1) at told in
     let q = rw (c .before .size2 .given .1) at (c .before .before .before .judge-fields .ensures) in
     omega (arith, part-room _ _ _ _ p, q .1)
 
 add-t18 : tie.Need-add-t18
 add-t18 c =
-    let p = rw (c .before .before .before .before .before .before .fields .given .1) at (c .before .before .before .before .before .before .before .before .after-names .ensures) in
+    let told = c .before .before .before .before .before .before .before .before .after-names .ensures in
+    let p = rw (c .before .before .before .before .before .before .fields .given .1) at told in
     let q = rw (c .before .size2 .given .1) at (c .before .before .before .judge-fields .ensures) in
     omega (arith, part-room _ _ _ _ p, q .1)
 
 add-t19 : tie.Need-add-t19
 add-t19 c =
-    let p = rw (c .before .before .before .before .before .before .fields .given .1) at (c .before .before .before .before .before .before .before .before .after-names .ensures) in
+    let told = c .before .before .before .before .before .before .before .before .after-names .ensures in
+    let p = rw (c .before .before .before .before .before .before .fields .given .1) at told in
     let q = rw (c .before .size2 .given .1) at (c .before .before .before .judge-fields .ensures) in
     omega (arith, part-inside _ _ _ _ p _ (q .2))
 
 returns-2 : tie.Need-returns-2
 returns-2 c =
-    let p = rw (c .before .before .before .before .before .fields .given .1) at (c .before .before .before .before .before .before .before .after-names .ensures) in
+    let told = c .before .before .before .before .before .before .before .after-names .ensures in
+    let p = rw (c .before .before .before .before .before .fields .given .1) at told in
     let q = rw (c .enum-told2 .given .1) at (c .before .before .judge-fields .ensures) in
     part-malformed _ _ _ _ p q
 
 returns-3 : tie.Need-returns-3
 returns-3 c =
-    let p = rw (c .before .before .before .before .before .before .fields .given .1) at (c .before .before .before .before .before .before .before .before .after-names .ensures) in
+    let told = c .before .before .before .before .before .before .before .before .after-names .ensures in
+    let p = rw (c .before .before .before .before .before .before .fields .given .1) at told in
     let q = rw (c .before .size .given .1) at (c .before .before .before .judge-fields .ensures) in
     part-ends _ _ _ _ p _ q
 
 returns-4 : tie.Need-returns-4
 returns-4 c =
-    let p = rw (c .before .before .before .before .before .before .fields .given .1) at (c .before .before .before .before .before .before .before .before .after-names .ensures) in
+    let told = c .before .before .before .before .before .before .before .before .after-names .ensures in
+    let p = rw (c .before .before .before .before .before .before .fields .given .1) at told in
     let q = rw (c .before .size2 .given .1) at (c .before .before .before .judge-fields .ensures) in
     part-links _ _ _ _ p _ _ q
 

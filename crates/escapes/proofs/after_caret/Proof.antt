@@ -4,6 +4,7 @@ use native.Mathlib.Omega.{arith}
 use Prim.Native.Nat.{_<_}
 use Rattle.spec.proofs.FieldSteps as Steps
 use Rattle.spec.specs.Strings.{decode}
+use Rattle.field_bounds.proofs.FieldBytes.{passed-over}
 use borrow.Author.Needs.{needs}
 use Rattle.escapes.proofs.after_caret.Statement.{statement}
 use Rattle.escapes.proofs.after_caret.Tie as tie
@@ -20,13 +21,14 @@ enum-told c = search needs
 returns : tie.Need-returns
 returns c =
     let p = rw (c .before .before .b .given .1) at (c .before .before .before .before .field-byte .ensures) in
-    (rw (p .0, ← Steps.control-127 _ (c .match2 .keys1)) (Steps.decode-control _ _ (omega arith, omega arith)), p .1, p .2)
+    let control = Steps.control-127 _ (c .match2 .keys1) in
+    (rw (p .0, ← control) (Steps.decode-control _ _ (omega arith, omega arith)), p .1, p .2, λ o q. passed-over _ _ _ _ _ _ q (p .3))
 
 returns-2 : tie.Need-returns-2
 returns-2 c =
     let p = rw (c .before .before .before .before .b .given .1) at (c .before .before .before .before .before .before .field-byte .ensures) in
     let above : 63 < c .before .before .before .before .b .given .0 .0 = omega arith in
-    (rw (p .0, ← Steps.control-mod _ above) (Steps.decode-control _ _ (omega arith, omega arith)), p .1, p .2)
+    (rw (p .0, ← Steps.control-mod _ above) (Steps.decode-control _ _ (omega arith, omega arith)), p .1, p .2, λ o q. passed-over _ _ _ _ _ _ q (p .3))
 
 returns-3 : tie.Need-returns-3
 returns-3 c =

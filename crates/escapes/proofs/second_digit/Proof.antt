@@ -4,6 +4,7 @@ use native.Mathlib.Omega.{arith}
 use Rattle.spec.proofs.FieldSteps as Steps
 use Rattle.spec.specs.Strings.{decode}
 use Rattle.escapes.proofs.TextSteps.{text-on}
+use mathlib.Core.Path.{refl}
 use borrow.Author.Needs.{needs}
 use Rattle.escapes.proofs.second_digit.Statement.{statement}
 use Rattle.escapes.proofs.second_digit.Tie as tie
@@ -29,7 +30,7 @@ enum-told c = search needs
 returns : tie.Need-returns
 returns c =
     let p = rw (c .before .before .before .before .b .given .1) at (c .before .before .before .before .before .before .field-byte .ensures) in
-    text-on _ _ _ _ _ (c .third-digit .result) (rw (p .0) (Steps.decode-second _ _ _ (omega arith, omega arith))) (p .1) (c .third-digit .ensures)
+    text-on _ _ _ _ _ (c .third-digit .result) (rw (p .0) (Steps.decode-second _ _ _ (omega arith, omega arith))) (p .1) (p .3) refl (c .third-digit .ensures)
 
 returns-2 : tie.Need-returns-2
 returns-2 c =

@@ -3,6 +3,8 @@
 use native.Mathlib.Omega.{arith}
 use Rattle.spec.proofs.FieldSteps as Steps
 use Rattle.escapes.proofs.TextSteps.{text-on}
+use Rattle.field_bounds.proofs.FieldBytes.{passed-over}
+use mathlib.Core.Path.{refl}
 use borrow.Author.Needs.{needs}
 use Rattle.escapes.proofs.text_byte.Statement.{statement}
 use Rattle.escapes.proofs.text_byte.Tie as tie
@@ -25,12 +27,12 @@ enum-told c = search needs
 returns : tie.Need-returns
 returns c =
     let p = rw (c .before .before .before .b .given .1) at (c .before .before .before .before .before .field-byte .ensures) in
-    text-on _ _ _ _ _ (c .after-backslash .result) (rw (p .0) (Steps.decode-slash _ _ (omega arith))) (p .1) (c .after-backslash .ensures)
+    text-on _ _ _ _ _ (c .after-backslash .result) (rw (p .0) (Steps.decode-slash _ _ (omega arith))) (p .1) (p .3) refl (c .after-backslash .ensures)
 
 returns-2 : tie.Need-returns-2
 returns-2 c =
     let p = rw (c .before .before .before .b .given .1) at (c .before .before .before .before .before .field-byte .ensures) in
-    text-on _ _ _ _ _ (c .after-caret .result) (rw (p .0) (Steps.decode-caret _ _ (omega arith))) (p .1) (c .after-caret .ensures)
+    text-on _ _ _ _ _ (c .after-caret .result) (rw (p .0) (Steps.decode-caret _ _ (omega arith))) (p .1) (p .3) refl (c .after-caret .ensures)
 
 returns-3 : tie.Need-returns-3
 returns-3 c =
@@ -45,12 +47,12 @@ returns-4 c =
 returns-5 : tie.Need-returns-5
 returns-5 c =
     let p = rw (c .before .before .b .given .1) at (c .before .before .before .before .field-byte .ensures) in
-    (rw (p .0) (Steps.decode-byte _ _ (λ e. omega arith) (λ e. omega arith) (omega arith, omega arith)), p .1, p .2)
+    (rw (p .0) (Steps.decode-byte _ _ (λ e. omega arith) (λ e. omega arith) (omega arith, omega arith)), p .1, p .2, λ o q. passed-over _ _ _ _ _ _ q (p .3))
 
 returns-6 : tie.Need-returns-6
 returns-6 c =
     let p = rw (c .before .before .before .before .b .given .1) at (c .before .before .before .before .before .before .field-byte .ensures) in
-    (rw (p .0) (Steps.decode-byte _ _ (λ e. omega arith) (λ e. omega arith) (omega arith, omega arith)), p .1, p .2)
+    (rw (p .0) (Steps.decode-byte _ _ (λ e. omega arith) (λ e. omega arith) (omega arith, omega arith)), p .1, p .2, λ o q. passed-over _ _ _ _ _ _ q (p .3))
 
 returns-7 : tie.Need-returns-7
 returns-7 c =

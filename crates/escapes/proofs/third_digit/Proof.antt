@@ -3,6 +3,7 @@
 use native.Mathlib.Omega.{arith}
 use Rattle.spec.proofs.FieldSteps as Steps
 use Rattle.spec.specs.Strings.{decode}
+use Rattle.field_bounds.proofs.FieldBytes.{passed-over}
 use borrow.Author.Needs.{needs}
 use Rattle.escapes.proofs.third_digit.Statement.{statement}
 use Rattle.escapes.proofs.third_digit.Tie as tie
@@ -22,7 +23,7 @@ add-t13 c = search needs
 returns : tie.Need-returns
 returns c =
     let p = rw (c .before .before .before .before .b .given .1) at (c .before .before .before .before .before .before .field-byte .ensures) in
-    (rw (p .0) (Steps.decode-third _ _ _ (omega arith, omega arith) (omega arith)), p .1, p .2)
+    (rw (p .0) (Steps.decode-third _ _ _ (omega arith, omega arith) (omega arith)), p .1, p .2, λ o q. passed-over _ _ _ _ _ _ q (p .3))
 
 enum-told : tie.Need-enum-told
 enum-told c = search needs

@@ -39,7 +39,8 @@ loop-less c =
 loop-again : tie.Need-loop-again Inv-loop μ-loop
 loop-again c =
     let p = rw (c .before .before .before .before .before .b .given .1) at (c .before .before .before .before .before .before .before .field-byte .ensures) in
-    copying-on _ _ _ _ _ _ _ (c .before .before .before .before .before .before .before .before .loop .inv) _ _ _ (p .0) (p .1) (c .before .before .put-after .ensures)
+    let inv = c .before .before .before .before .before .before .before .before .loop .inv in
+    copying-on _ _ _ _ _ _ _ inv _ _ _ (p .0) (p .1) (c .before .before .put-after .ensures)
 
 enum-told : tie.Need-enum-told Inv-loop μ-loop
 enum-told c = search needs

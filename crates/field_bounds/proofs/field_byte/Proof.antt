@@ -1,6 +1,6 @@
 -- `field_bounds::field_byte` meets its contract: a colon or a newline ends the field, any other byte is its first.
 -- Assumes nothing.
-use Rattle.field_bounds.proofs.FieldBytes.{field-ends, field-goes, field-over}
+use Rattle.field_bounds.proofs.FieldBytes.{field-ends, field-goes, field-over, passed-byte}
 use borrow.Author.Needs.{needs}
 use Rattle.field_bounds.proofs.field_byte.Statement.{statement}
 use Rattle.field_bounds.proofs.field_byte.Tie as tie
@@ -22,7 +22,7 @@ returns c =
 returns-2 : tie.Need-returns-2
 returns-2 c =
     let p = rw (c .before .before .b .given .1) at (c .before .before .before .before .peek .ensures) in
-    (field-goes _ _ _ _ (p .0) (c .match2 .rest .1), p .1, p .2)
+    (field-goes _ _ _ _ (p .0) (c .match2 .rest .1), p .1, p .2, passed-byte _ _ _ _ (p .0) (p .1) (c .match2 .rest .1))
 
 returns-3 : tie.Need-returns-3
 returns-3 c =

@@ -3,7 +3,8 @@
 use native.Mathlib.Omega.{arith}
 use Prim.Native.Nat.{_-_}
 use lib.ListN.{length}
-use Rattle.field_bounds.proofs.FieldBytes.{Passed, passed-none, passed-on, passed-colon, passed-newline, passed-end}
+use Rattle.field_bounds.specs.Answers.{Passed}
+use Rattle.field_bounds.proofs.FieldBytes.{passed-none, passed-on, passed-colon, passed-newline, passed-end}
 use borrow.Author.Needs.{needs}
 use Rattle.field_bounds.proofs.find_colon.Statement.{statement}
 use Rattle.field_bounds.proofs.find_colon.Tie as tie

@@ -40,7 +40,7 @@ loop-less c = search needs
 loop-again : tie.Need-loop-again Inv-loop μ-loop
 loop-again c =
     let p = rw (c .before .before .before .b .given .1) at (c .before .before .before .before .before .field-byte .ensures) in
-    started-on _ _ _ _ _ (c .before .before .before .before .before .before .before .loop .inv) (omega arith) _ _ (p .0) (c .if1 .left) (p .2)
+    started-on _ _ _ _ _ (c .before .before .before .before .before .before .before .loop .inv) (omega arith) _ _ (p .0) (c .if1 .left) (p .3)
 
 enum-told : tie.Need-enum-told Inv-loop μ-loop
 enum-told c = search needs

@@ -1,7 +1,9 @@
 -- `fields::read_capability` meets its contract: two bytes that are an id, and then the content.
 -- Assumes nothing.
 use mathlib.Core.Path.{_∙_, sym}
+use native.Mathlib.Omega.{arith}
 use borrow.Author.Tests.{not-true, not-false}
+use Rattle.field_bounds.proofs.FieldBytes.{passed-over}
 use Rattle.fields.specs.Readings.{otherReading}
 use Rattle.fields.proofs.Contents.{other-id, other-no-id}
 use borrow.Author.Needs.{needs}
@@ -21,7 +23,7 @@ returns : tie.Need-returns
 unfolding otherReading
 returns c =
     let p = rw (c .enum-told .given .1) at (c .before .before .field-byte .ensures) in
-    rw p
+    (rw p, λ start q. q)
 
 field-byte-requires-2 : tie.Need-field-byte-requires-2
 field-byte-requires-2 c κs = search needs
@@ -37,7 +39,7 @@ unfolding otherReading
 returns-2 c =
     let p = rw (c .before .before .before .before .a .given .1) at (c .before .before .before .before .before .before .field-byte .ensures) in
     let q = rw (c .enum-told2 .given .1) at (c .before .before .field-byte2 .ensures) in
-    rw (p .0, q)
+    (rw (p .0, q), λ start o. passed-over _ _ _ _ _ _ o (p .3))
 
 is-id-requires : tie.Need-is-id-requires
 is-id-requires c κs = search needs
@@ -46,16 +48,23 @@ returns-3 : tie.Need-returns-3
 returns-3 c =
     let p = rw (c .before .before .before .before .before .before .before .a .given .1) at (c .before .before .before .before .before .before .before .before .before .field-byte .ensures) in
     let q = rw (c .before .before .before .b .given .1) at (c .before .before .before .before .before .field-byte2 .ensures) in
-    rw (p .0, q .0) (other-no-id _ _ _ (sym (c .before .is-id .ensures) ∙ not-true _ (c .if1 .taken)))
+    let no = sym (c .before .is-id .ensures) ∙ not-true _ (c .if1 .taken) in
+    (rw (p .0, q .0) (other-no-id _ _ _ no), λ start o. passed-over _ _ _ _ _ _ (passed-over _ _ _ _ _ _ o (p .3)) (q .3))
 
 read-content-requires : tie.Need-read-content-requires
-read-content-requires c κs = search needs
+read-content-requires c κs =
+    let p = rw (c .before .before .before .before .before .before .before .a .given .1) at
+    (c .before .before .before .before .before .before .before .before .before .field-byte .ensures) in
+    let q = rw (c .before .before .before .b .given .1) at (c .before .before .before .before .before .field-byte2 .ensures) in
+    omega arith
 
 returns-4 : tie.Need-returns-4
 returns-4 c =
     let p = rw (c .before .before .before .before .before .before .before .before .a .given .1) at (c .before .before .before .before .before .before .before .before .before .before .field-byte .ensures) in
     let q = rw (c .before .before .before .before .b .given .1) at (c .before .before .before .before .before .before .field-byte2 .ensures) in
-    rw (p .0, q .0, other-id _ _ _ (sym (c .before .before .is-id .ensures) ∙ not-false _ (c .before .if1 .left))) (c .read-content .ensures)
+    let yes = sym (c .before .before .is-id .ensures) ∙ not-false _ (c .before .if1 .left) in
+    let r = c .read-content .ensures in
+    (rw (p .0, q .0, other-id _ _ _ yes) (r .0), λ start o. r .1 start (passed-over _ _ _ _ _ _ (passed-over _ _ _ _ _ _ o (p .3)) (q .3)))
 
 pub read-capability-spec : {M : Type 1} → statement M
 read-capability-spec =

@@ -3,7 +3,8 @@
 use native.Mathlib.Omega.{arith}
 use Prim.Native.Nat.{_-_}
 use lib.ListN.{length}
-use Rattle.fields.proofs.Numbers.{Counted, counted-none, counted-room, counted-long, counted-not, counted-on, counted-empty, counted-large, counted-good}
+use Rattle.fields.proofs.Numbers.{Counted, counted-none, counted-room, counted-long, counted-not, counted-on}
+use Rattle.fields.proofs.Numbers.{counted-empty, counted-large, counted-good}
 use borrow.Author.Needs.{needs}
 use Rattle.fields.proofs.read_digits.Statement.{statement}
 use Rattle.fields.proofs.read_digits.Tie as tie
@@ -26,7 +27,8 @@ enum-known-b c = search needs
 returns : tie.Need-returns Inv-loop μ-loop
 returns c =
     let p = rw (c .before .before .b .given .1) at (c .before .before .before .before .field-byte .ensures) in
-    counted-long _ _ _ _ _ (c .before .before .before .before .before .loop .inv) _ _ (p .0) (omega arith)
+    let inv = c .before .before .before .before .before .loop .inv in
+    (counted-long _ _ _ _ _ inv _ _ (p .0) (omega arith), inv .passed, inv .few)
 
 mul-v : tie.Need-mul-v Inv-loop μ-loop
 mul-v c =
@@ -52,17 +54,20 @@ loop-less c =
 loop-again : tie.Need-loop-again Inv-loop μ-loop
 loop-again c =
     let p = rw (c .before .before .before .before .before .b .given .1) at (c .before .before .before .before .before .before .before .field-byte .ensures) in
-    rw (c .wide .ensures) (counted-on _ _ _ _ _ (c .before .before .before .before .before .before .before .before .loop .inv) _ _ (p .0) (omega arith) (omega arith) (omega arith))
+    let inv = c .before .before .before .before .before .before .before .before .loop .inv in
+    rw (c .wide .ensures) (counted-on _ _ _ _ _ inv _ _ (p .0) (p .3) (omega arith) (omega arith) (omega arith))
 
 returns-2 : tie.Need-returns-2 Inv-loop μ-loop
 returns-2 c =
     let p = rw (c .before .before .before .b .given .1) at (c .before .before .before .before .before .field-byte .ensures) in
-    counted-not _ _ _ _ _ (c .before .before .before .before .before .before .loop .inv) _ _ (p .0) (λ w. omega arith)
+    let inv = c .before .before .before .before .before .before .loop .inv in
+    (counted-not _ _ _ _ _ inv _ _ (p .0) (λ w. omega arith), inv .passed, inv .few)
 
 returns-3 : tie.Need-returns-3 Inv-loop μ-loop
 returns-3 c =
     let p = rw (c .before .before .before .before .b .given .1) at (c .before .before .before .before .before .before .field-byte .ensures) in
-    counted-not _ _ _ _ _ (c .before .before .before .before .before .before .before .loop .inv) _ _ (p .0) (λ w. omega arith)
+    let inv = c .before .before .before .before .before .before .before .loop .inv in
+    (counted-not _ _ _ _ _ inv _ _ (p .0) (λ w. omega arith), inv .passed, inv .few)
 
 enum-told : tie.Need-enum-told Inv-loop μ-loop
 enum-told c = search needs
@@ -70,17 +75,20 @@ enum-told c = search needs
 returns-4 : tie.Need-returns-4 Inv-loop μ-loop
 returns-4 c =
     let p = rw (c .before .enum-told .given .1) at (c .before .before .before .field-byte .ensures) in
-    counted-empty _ _ _ _ _ (c .before .before .before .before .loop .inv) p (omega arith)
+    let inv = c .before .before .before .before .loop .inv in
+    (counted-empty _ _ _ _ _ inv p (omega arith), inv .passed, inv .few)
 
 returns-5 : tie.Need-returns-5 Inv-loop μ-loop
 returns-5 c =
     let p = rw (c .before .before .enum-told .given .1) at (c .before .before .before .before .field-byte .ensures) in
-    counted-large _ _ _ _ _ (c .before .before .before .before .before .loop .inv) p (omega arith)
+    let inv = c .before .before .before .before .before .loop .inv in
+    (counted-large _ _ _ _ _ inv p (omega arith), inv .passed, inv .few)
 
 returns-6 : tie.Need-returns-6 Inv-loop μ-loop
 returns-6 c =
     let p = rw (c .before .before .enum-told .given .1) at (c .before .before .before .before .field-byte .ensures) in
-    counted-good _ _ _ _ _ (c .before .before .before .before .before .loop .inv) p (λ e. omega arith) (omega arith)
+    let q = counted-good _ _ _ _ _ (c .before .before .before .before .before .loop .inv) p (λ e. omega arith) (omega arith) in
+    (q .0, q .1, c .before .before .before .before .before .loop .inv .passed, c .before .before .before .before .before .loop .inv .few)
 
 pub read-digits-spec : {M : Type 1} → statement M
 read-digits-spec =

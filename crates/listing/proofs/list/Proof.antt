@@ -1,5 +1,6 @@
 -- `listing::list` meets its contract, by how the walk ended. Assumes nothing.
 use Rattle.spec.specs.Listing.{listOutcome, listFor}
+use Rattle.spec.proofs.ListingBounds.{accepted-bounded}
 use Rattle.listing.proofs.Delivering.{list-none}
 use borrow.Author.Needs.{needs}
 use Rattle.listing.proofs.list.Statement.{statement}
@@ -17,7 +18,7 @@ enum-told c = search needs
 write-list-requires : tie.Need-write-list-requires
 write-list-requires c κs =
     let w = rw (c .before .enum-told .given .1) at (c .before .before .before .resolve .ensures) in
-    (w .3, w .2)
+    (w .3, w .2, accepted-bounded _ _ _ _ (w .0))
 
 returns : tie.Need-returns
 unfolding listOutcome listFor

@@ -3,7 +3,7 @@ use Prim.Native.Nat.{_-_}
 use native.Mathlib.Omega.{arith}
 use Rattle.spec.specs.Chain.{placed}
 use Rattle.field_bounds.proofs.Parts.{part-fields}
-use Rattle.questions.proofs.Scanning.{no-fields}
+use Rattle.field_bounds.proofs.Pieces.{no-fields}
 use Rattle.listing.proofs.Passing.{pass-none}
 use borrow.Author.Needs.{needs}
 use Rattle.listing.proofs.write_line.Statement.{statement}
@@ -21,7 +21,7 @@ enum-told c = search needs
 returns : tie.Need-returns
 unfolding placed
 returns c =
-    let a = c .before .before .before .before .before .before .args in
+    let a = c .before .before .before .before .before .args in
     let p = rw (c .enum-told .given .1) at (c .before .before .after-names .ensures) in
     (rw (no-fields _ p) (pass-none (a .form) (a .seen .now) (a .out .now) (a .to)), omega arith)
 
@@ -44,13 +44,11 @@ write-fields-requires c κs = search needs
 same-length : tie.Need-same-length
 same-length c = search needs
 
-same-length-2 : tie.Need-same-length-2
-same-length-2 c = search needs
-
 returns-2 : tie.Need-returns-2
 returns-2 c =
-    let p = rw (c .before .before .before .before .before .before .before .before .before .from .given .1) at (c .before .before .before .before .before .before .before .before .before .before .before .after-names .ensures) in
-    rw (← part-fields _ _ _ _ p) (c .before .before .before .before .write-fields .ensures)
+    let at = c .before .before .before .before .before .before .before in
+    let p = rw (at .from .given .1) at (at .before .before .after-names .ensures) in
+    rw (← part-fields _ _ _ _ p) (c .before .before .write-fields .ensures)
 
 pub write-line-spec : {M : Type 1} → statement M
 write-line-spec =
@@ -65,5 +63,4 @@ write-line-spec =
     part-write-fields-end
     write-fields-requires
     same-length
-    same-length-2
     returns-2)

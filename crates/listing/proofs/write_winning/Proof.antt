@@ -10,7 +10,7 @@ use Rattle.spec.specs.Lines.{lineAt}
 use Rattle.spec.specs.Fields.{fieldsOf}
 use Rattle.spec.specs.Chain.{Field, placed, joinedFields}
 use Rattle.chain.proofs.JoinedFields.{fieldsFrom, from-first, from-end, from-next}
-use Rattle.listing.specs.Answers.{Passes}
+use Rattle.listing.specs.Answers.{Passes, mostForLine}
 use Rattle.listing.specs.declared.Form.{Form}
 use Rattle.listing.proofs.Passing.{pass-none, pass-then, pass-winning, pass-marks}
 use Rattle.listing.proofs.write_winning.Statement.{statement}
@@ -21,8 +21,8 @@ record Going (db : List ℕ) (form : Form) (out₀ : List ℕ) (to : ℕ) (place
   count : n ≤ 32
   done : List Field
   all : joinedFields db 0 (take n places) ≡ done ++ fieldsFrom db places n i
-  passed : Passes form done (replicate 35344 0) out₀ to seen out end
-  bound : end ≤ to + i * 8388616
+  passed : Passes form done (replicate 8836 0) out₀ to seen out end
+  bound : end ≤ to + i * mostForLine
   buffer : length out ≡ length out₀
 
 abbrev Inv-loop : tie.InvT-loop
@@ -34,7 +34,15 @@ abbrev μ-loop : tie.MeasureT-loop
 loop-holds : tie.Need-loop-holds Inv-loop μ-loop
 loop-holds c =
     let a = c .before .before .before .args in
-    record { array = search needs; count = search needs; done = []; all = from-first _ _ _; passed = pass-none (a .form) (replicate 35344 0) (a .out .now) (a .to); bound = omega arith; buffer = refl }
+    record {
+      array = search needs;
+      count = search needs;
+      done = [];
+      all = from-first _ _ _;
+      passed = pass-none (a .form) (replicate 8836 0) (a .out .now) (a .to);
+      bound = omega arith;
+      buffer = refl;
+    }
 
 mul-write-line : tie.Need-mul-write-line Inv-loop μ-loop
 mul-write-line c = search needs
@@ -45,17 +53,12 @@ array-read-write-line c = omega arith
 cast-write-line : tie.Need-cast-write-line Inv-loop μ-loop
 cast-write-line c = omega arith
 
-slice-aggregate-write-line : tie.Need-slice-aggregate-write-line Inv-loop μ-loop
-slice-aggregate-write-line c =
-    let g = c .before .before .loop .inv in
-    let a = c .before .before .before .before .before .before .args in
-    sym (pass-marks (a .form) (g .done) (a .out .now) (a .to) _ _ _ (g .passed) .1 .size)
-
 write-line-requires : tie.Need-write-line-requires Inv-loop μ-loop
 write-line-requires c κs =
     let g = c .before .before .before .loop .inv in
     let a = c .before .before .before .before .before .before .before .args in
-    (c .before .before .before .before .before .before .before .pre .0, pass-marks (a .form) (g .done) (a .out .now) (a .to) _ _ _ (g .passed), omega (arith, c .before .before .before .before .before .before .before .pre .2))
+    let pre = c .before .before .before .before .before .before .before .pre in
+    (pre .0, pass-marks (a .form) (g .done) (a .out .now) (a .to) _ _ _ (g .passed), omega (arith, pre .2))
 
 add-i : tie.Need-add-i Inv-loop μ-loop
 add-i c = omega arith
@@ -65,18 +68,20 @@ loop-less c = omega arith
 
 loop-again : tie.Need-loop-again Inv-loop μ-loop
 loop-again c =
-    let g = c .before .before .before .before .before .before .before .loop .inv in
-    let a = c .before .before .before .before .before .before .before .before .before .before .before .args in
-    let l = c .before .before .before .before .before .before .before .loop in
+    let a = c .before .before .before .before .before .before .before .before .before .before .args in
+    let l = c .before .before .before .before .before .before .loop in
+    let g = l .inv in
+    let w = c .before .before .write-line in
     let line = placed (l .i) (fieldsOf (lineAt (a .db .now) (getD (a .c .places) (l .i) 0))) in
+    let next = from-next (a .db .now) (a .c .places) (a .c .count) (l .i) (omega arith) (omega arith) in
     record {
       array = g .array;
       count = g .count;
       done = g .done ++ line;
-      all = g .all ∙ ap (λ (fs : List Field). g .done ++ fs) (from-next (a .db .now) (a .c .places) (a .c .count) (l .i) (omega arith) (omega arith)) ∙ sym (append-assoc (g .done) line _);
-      passed = pass-then (a .form) (g .done) line (replicate 35344 0) (a .out .now) (a .to) _ _ _ _ _ _ (g .passed) (c .before .before .before .write-line .ensures .0);
-      bound = omega (arith, c .before .before .before .write-line .ensures .1);
-      buffer = c .before .before .before .write-line .kept .1 .1 .1 .1 .1 .0 ∙ g .buffer;
+      all = g .all ∙ ap (λ (fs : List Field). g .done ++ fs) next ∙ sym (append-assoc (g .done) line _);
+      passed = pass-then (a .form) (g .done) line (replicate 8836 0) (a .out .now) (a .to) _ _ _ _ _ _ (g .passed) (w .ensures .0);
+      bound = omega (arith, w .ensures .1);
+      buffer = c .before .out .given ∙ g .buffer;
     }
 
 same-length : tie.Need-same-length Inv-loop μ-loop
@@ -86,7 +91,8 @@ returns : tie.Need-returns Inv-loop μ-loop
 returns c =
     let g = c .before .loop .inv in
     let a = c .before .before .before .before .before .args in
-    let e : joinedFields (a .db .now) 0 (take (a .c .count) (a .c .places)) ≡ g .done = g .all ∙ rw (from-end (a .db .now) (a .c .places) (a .c .count) (c .before .loop .i) (omega arith)) (append-nil (g .done)) in
+    let none = from-end (a .db .now) (a .c .places) (a .c .count) (c .before .loop .i) (omega arith) in
+    let e : joinedFields (a .db .now) 0 (take (a .c .count) (a .c .places)) ≡ g .done = g .all ∙ rw none (append-nil (g .done)) in
     rw e (pass-winning (a .form) (g .done) (a .out .now) (a .to) _ _ _ (g .passed))
 
 pub write-winning-spec : {M : Type 1} → statement M
@@ -99,7 +105,6 @@ write-winning-spec =
     mul-write-line
     array-read-write-line
     cast-write-line
-    slice-aggregate-write-line
     write-line-requires
     add-i
     loop-less

@@ -1,4 +1,5 @@
--- `name_scan::next_hit` meets its contract: nothing is passed over where there is nothing to look for.
+-- `name_scan::next_hit` meets its contract: nothing is passed over where there is nothing to look for, and without lists what
+-- `hit_by_parts` passes over.
 -- Assumes nothing.
 use borrow.Author.Needs.{needs}
 use mathlib.Core.Path.{refl}
@@ -18,11 +19,17 @@ sub-if3 c = search needs
 returns-3 : tie.Need-returns-3
 returns-3 c = λ h g. passed-none _ refl g
 
+hit-by-parts-requires : tie.Need-hit-by-parts-requires
+hit-by-parts-requires c κs = tt
+
 returns-4 : tie.Need-returns-4
-returns-4 c = λ h g. passed-none _ refl g
+returns-4 c = search needs
+
+hit-by-parts-requires-2 : tie.Need-hit-by-parts-requires-2
+hit-by-parts-requires-2 c κs = tt
 
 returns-5 : tie.Need-returns-5
-returns-5 c = λ h g. passed-none _ refl g
+returns-5 c = search needs
 
 hit-by-stretches-requires : tie.Need-hit-by-stretches-requires
 hit-by-stretches-requires c κs = search needs
@@ -44,7 +51,9 @@ next-hit-spec =
     returns-2
     sub-if3
     returns-3
+    hit-by-parts-requires
     returns-4
+    hit-by-parts-requires-2
     returns-5
     hit-by-stretches-requires
     same-length

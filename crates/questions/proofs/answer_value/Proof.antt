@@ -1,12 +1,11 @@
 -- `questions::answer_value` meets its contract, by what the question comes to. Assumes nothing.
 use mathlib.Core.Path.{sym}
+use native.Mathlib.Omega.{arith}
+use Rattle.questions.proofs.ReadFields.{read-value, read-small}
 use Rattle.questions.proofs.Terminals.{answer-refused, answer-absent, answer-present}
 use borrow.Author.Needs.{needs}
 use Rattle.questions.proofs.answer_value.Statement.{statement}
 use Rattle.questions.proofs.answer_value.Tie as tie
-
-number-requires : tie.Need-number-requires
-number-requires c κs = search needs
 
 ask-requires : tie.Need-ask-requires
 ask-requires c κs = search needs
@@ -17,31 +16,37 @@ enum-known-r c = search needs
 enum-told : tie.Need-enum-told
 enum-told c = search needs
 
-enum-known-at : tie.Need-enum-known-at
-enum-known-at c = search needs
+enum-known-read : tie.Need-enum-known-read
+enum-known-read c = search needs
 
-value-at-requires : tie.Need-value-at-requires
-value-at-requires c κs = let q = rw (c .before .at .given .1) at (c .before .before .before .ask .ensures) in q .4
+value-of-requires : tie.Need-value-of-requires
+value-of-requires c κs =
+    let f = c .before in
+    let q = rw (f .read .given .1) at (f .before .before .ask .ensures) in
+    let n = read-small (f .before .before .before .before .before .before .args .db .now) (f .read .given .0 .0) _ (f .read .given .0 .1 .0) (q .3 .2) in
+    omega arith
 
 returns : tie.Need-returns
 returns c = let q = rw (c .before .r .given .1) at (c .before .before .before .ask .ensures) in sym (answer-refused _ _ _ _ q)
 
 returns-2 : tie.Need-returns-2
-returns-2 c = let q = rw (c .enum-told .given .1, c .before .before .before .number .ensures) at (c .before .before .ask .ensures) in sym (answer-absent _ _ _ _ _ (q .2) (q .3))
+returns-2 c = let q = rw (c .enum-told .given .1) at (c .before .before .ask .ensures) in sym (answer-absent _ _ _ _ _ (q .2) (q .3))
 
 returns-3 : tie.Need-returns-3
-returns-3 c = let q = rw (c .before .before .at .given .1, c .before .before .before .before .before .number .ensures) at (c .before .before .before .before .ask .ensures) in rw (c .value-at .ensures) (sym (answer-present _ _ _ _ _ (q .2) _ (q .3)))
+returns-3 c =
+    let q = rw (c .before .before .read .given .1) at (c .before .before .before .before .ask .ensures) in
+    let v = read-value _ _ (c .before .before .read .given .0 .1 .0) (q .3 .2) in
+    rw (c .value-of .ensures, ← v) (sym (answer-present _ _ _ _ _ (q .2) _ (q .3 .1)))
 
 pub answer-value-spec : {M : Type 1} → statement M
 answer-value-spec =
     tie.close
     (tie.spec
-    number-requires
     ask-requires
     enum-known-r
     enum-told
-    enum-known-at
-    value-at-requires
+    enum-known-read
+    value-of-requires
     returns
     returns-2
     returns-3)

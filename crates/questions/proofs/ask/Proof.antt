@@ -2,23 +2,25 @@
 use mathlib.Core.Path.{_∙_, sym}
 use native.Mathlib.Omega.{arith}
 use borrow.Author.Tests.{not-true, not-false}
-use Rattle.questions.proofs.AskedNames.{id-is, id-length}
-use Rattle.questions.proofs.Terminals.{asked-bad-name, asked-bad-id, asked-good}
+use Rattle.identifiers.proofs.AskedNames.{id-length}
+use Rattle.questions.proofs.Terminals.{asked-bad-name, asked-bad-id, asked-good, asked-bytes}
 use borrow.Author.Needs.{needs}
 use Rattle.questions.proofs.ask.Statement.{statement}
 use Rattle.questions.proofs.ask.Tie as tie
+
+is-good-id-requires : tie.Need-is-good-id-requires
+is-good-id-requires c κs = search needs
 
 is-good-name-requires : tie.Need-is-good-name-requires
 is-good-name-requires c κs = search needs
 
 returns : tie.Need-returns
-returns c = asked-bad-name _ _ _ (sym (c .before .is-good-name .ensures) ∙ not-true _ (c .if1 .taken))
-
-is-good-id-requires : tie.Need-is-good-id-requires
-is-good-id-requires c κs = search needs
+returns c =
+    let g = sym (c .before .is-good-name .ensures) ∙ c .if2 .taken in
+    asked-bad-id _ _ _ g (sym (c .before .before .before .is-good-id .ensures) ∙ not-true _ (c .before .before .if1 .taken))
 
 returns-2 : tie.Need-returns-2
-returns-2 c = asked-bad-id _ _ _ (sym (c .before .before .before .is-good-name .ensures) ∙ not-false _ (c .before .before .if1 .left)) (sym (c .before .is-good-id .ensures) ∙ not-true _ (c .if2 .taken))
+returns-2 c = asked-bad-name _ _ _ (sym (c .before .is-good-name .ensures) ∙ c .if2 .left)
 
 resolve-requires : tie.Need-resolve-requires
 resolve-requires c κs = search needs
@@ -30,52 +32,55 @@ enum-told : tie.Need-enum-told
 enum-told c = search needs
 
 shared-slice-read-look-up : tie.Need-shared-slice-read-look-up
-shared-slice-read-look-up c = omega (arith, id-length _ (sym (c .before .before .before .before .before .is-good-id .ensures) ∙ not-false _ (c .before .before .before .before .if2 .left)))
+shared-slice-read-look-up c =
+    let i = sym (c .before .before .before .before .before .is-good-id .ensures) ∙ not-false _ (c .before .before .before .before .if1 .left) in
+    omega (arith, id-length _ i)
 
 shared-slice-read-look-up-2 : tie.Need-shared-slice-read-look-up-2
-shared-slice-read-look-up-2 c = omega (arith, id-length _ (sym (c .before .before .before .before .before .before .is-good-id .ensures) ∙ not-false _ (c .before .before .before .before .before .if2 .left)))
+shared-slice-read-look-up-2 c =
+    let i = sym (c .before .before .before .before .before .before .is-good-id .ensures) ∙ not-false _ (c .before .before .before .before .before .if1 .left) in
+    omega (arith, id-length _ i)
 
 look-up-requires : tie.Need-look-up-requires
-look-up-requires c κs =
-    let w = rw (c .before .before .enum-told .given .1) at (c .before .before .before .before .resolve .ensures) in
-    w .2
+look-up-requires c κs = search needs
 
 enum-told-2 : tie.Need-enum-told-2
 enum-told-2 c = search needs
 
-enum-known-at : tie.Need-enum-known-at
-enum-known-at c = search needs
+enum-known-from : tie.Need-enum-known-from
+enum-known-from c = search needs
 
 returns-3 : tie.Need-returns-3
 returns-3 c =
     let w = rw (c .before .ended .given .1) at (c .before .before .before .resolve .ensures) in
-    let g = sym (c .before .before .before .before .before .before .before .is-good-name .ensures) ∙ not-false _ (c .before .before .before .before .before .before .if1 .left) in
-    let i = sym (c .before .before .before .before .before .is-good-id .ensures) ∙ not-false _ (c .before .before .before .before .if2 .left) in
-    asked-good _ _ _ g i ∙ w
+    let i = sym (c .before .before .before .before .before .is-good-id .ensures) ∙ not-false _ (c .before .before .before .before .if1 .left) in
+    asked-good _ _ _ i ∙ w
 
 returns-4 : tie.Need-returns-4
 returns-4 c =
-    let w = rw (c .before .before .before .before .before .enum-told .given .1) at (c .before .before .before .before .before .before .before .resolve .ensures) in
-    let g = sym (c .before .before .before .before .before .before .before .before .before .before .before .is-good-name .ensures) ∙ not-false _ (c .before .before .before .before .before .before .before .before .before .before .if1 .left) in
-    let i = sym (c .before .before .before .before .before .before .before .before .before .is-good-id .ensures) ∙ not-false _ (c .before .before .before .before .before .before .before .before .if2 .left) in
-    let h = rw (c .enum-told2 .given .1) at (c .before .before .look-up .ensures) in
-    (_, _, asked-good _ _ _ g i ∙ w .0, rw (id-is _ i) h)
+    let f = c .before .before .before .before .before in
+    let w = rw (f .enum-told .given .1) at (f .before .before .resolve .ensures) in
+    let i = sym (f .before .before .before .before .is-good-id .ensures) ∙ not-false _ (f .before .before .before .if1 .left) in
+    let l = c .before .before .look-up in
+    let h = rw (c .enum-told2 .given .1) at (asked-bytes _ _ _ _ (l .result) i (l .ensures)) in
+    (_, _, asked-good _ _ _ i ∙ w .0, h)
 
 returns-5 : tie.Need-returns-5
 returns-5 c =
-    let w = rw (c .before .before .before .before .before .before .enum-told .given .1) at (c .before .before .before .before .before .before .before .before .resolve .ensures) in
-    let g = sym (c .before .before .before .before .before .before .before .before .before .before .before .before .is-good-name .ensures) ∙ not-false _ (c .before .before .before .before .before .before .before .before .before .before .before .if1 .left) in
-    let i = sym (c .before .before .before .before .before .before .before .before .before .before .is-good-id .ensures) ∙ not-false _ (c .before .before .before .before .before .before .before .before .before .if2 .left) in
-    let h = rw (c .before .at .given .1) at (c .before .before .before .look-up .ensures) in
-    (_, _, asked-good _ _ _ g i ∙ w .0, rw (id-is _ i) h, w .3)
+    let f = c .before .before .before .before .before .before in
+    let w = rw (f .enum-told .given .1) at (f .before .before .resolve .ensures) in
+    let i = sym (f .before .before .before .before .is-good-id .ensures) ∙ not-false _ (f .before .before .before .if1 .left) in
+    let l = c .before .before .before .look-up in
+    let h = rw (c .before .from .given .1) at (asked-bytes _ _ _ _ (l .result) i (l .ensures)) in
+    (_, _, asked-good _ _ _ i ∙ w .0, h, w .3)
 
 pub ask-spec : {M : Type 1} → statement M
 ask-spec =
     tie.close
     (tie.spec
+    is-good-id-requires
     is-good-name-requires
     returns
-    is-good-id-requires
     returns-2
     resolve-requires
     enum-known-ended
@@ -84,7 +89,7 @@ ask-spec =
     shared-slice-read-look-up-2
     look-up-requires
     enum-told-2
-    enum-known-at
+    enum-known-from
     returns-3
     returns-4
     returns-5)

@@ -1,6 +1,10 @@
 -- `questions::string` meets its contract, by what the question comes to. Assumes nothing.
+use native.Mathlib.Omega.{arith}
 use Rattle.spec.specs.Questions.{stringOutcome}
+use Rattle.lookup.proofs.ReadParts.{rest-read}
+use Rattle.questions.proofs.ReadFields.{read-small, read-nothing}
 use Rattle.questions.proofs.Terminals.{string-refused, string-absent, string-present}
+use Rattle.questions.proofs.WrittenStrings.{none-written, string-written}
 use borrow.Author.Needs.{needs}
 use Rattle.questions.proofs.string.Statement.{statement}
 use Rattle.questions.proofs.string.Tie as tie
@@ -14,11 +18,34 @@ enum-known-r c = search needs
 enum-told : tie.Need-enum-told
 enum-told c = search needs
 
-enum-known-at : tie.Need-enum-known-at
-enum-known-at c = search needs
+enum-known-from : tie.Need-enum-known-from
+enum-known-from c = search needs
 
-write-string-requires : tie.Need-write-string-requires
-write-string-requires c κs = let q = rw (c .before .before .at .given .1) at (c .before .before .before .before .ask .ensures) in q .4
+enum-known-read : tie.Need-enum-known-read
+enum-known-read c = search needs
+
+sub-write-text : tie.Need-sub-write-text
+sub-write-text c =
+    let q = rw (c .before .before .before .before .from .given .1) at (c .before .before .before .before .before .before .ask .ensures) in
+    omega (arith, q .3 .3)
+
+part-write-text-start : tie.Need-part-write-text-start
+part-write-text-start c =
+    let q = rw (c .before .before .before .before .from .given .1) at (c .before .before .before .before .before .before .ask .ensures) in
+    omega (arith, q .3 .3)
+
+part-write-text-end : tie.Need-part-write-text-end
+part-write-text-end c = search needs
+
+write-text-requires : tie.Need-write-text-requires
+write-text-requires c κs =
+    let f = c .before .before .before .before .before .before in
+    let q = rw (f .from .given .1) at (f .before .before .ask .ensures) in
+    let a = f .before .before .before .before .before .before .before .args in
+    let from = f .from .given .0 .0 in
+    let p = rw (c .before .before .before .read .given .1) at (rest-read (a .db .now) from _ (f .from .given .0 .1 .0) (q .3 .2)) in
+    let n = rw (c .before .before .before .read .given .1) at (read-small (a .db .now) from _ (f .from .given .0 .1 .0) (q .3 .2)) in
+    (omega arith, (p .0, p .2, p .3))
 
 returns : tie.Need-returns
 unfolding stringOutcome
@@ -42,10 +69,21 @@ same-length c = search needs
 returns-3 : tie.Need-returns-3
 unfolding stringOutcome
 returns-3 c =
-    let q = rw (c .before .before .before .before .before .at .given .1) at (c .before .before .before .before .before .before .before .ask .ensures) in
-    let a = c .before .before .before .before .before .before .before .before .before .before .before .before .args in
-    let e = string-present (a .id .now) _ (a .out .now) _ _ (q .2) _ (q .3) in
-    rw e (c .before .before .write-string .ensures)
+    let f = c .before .before .before .before .before .before .before .before .before in
+    let q = rw (f .from .given .1) at (f .before .before .ask .ensures) in
+    let a = f .before .before .before .before .before .before .before .args in
+    let from = f .from .given .0 .0 in
+    let p = rw (c .before .before .before .before .before .before .read .given .1) at (rest-read (a .db .now) from _ (f .from .given .0 .1 .0) (q .3 .2)) in
+    let e = string-present (a .id .now) _ (a .out .now) _ _ (q .2) _ (q .3 .1) in
+    rw e (string-written _ _ _ _ _ _ _ _ _ p (c .before .before .write-text .ensures))
+
+returns-4 : tie.Need-returns-4
+unfolding stringOutcome
+returns-4 c =
+    let q = rw (c .before .before .from .given .1) at (c .before .before .before .before .ask .ensures) in
+    let a = c .before .before .before .before .before .before .before .before .before .args in
+    let e = string-present (a .id .now) _ (a .out .now) _ _ (q .2) _ (q .3 .1) in
+    rw e (none-written _ _ (read-nothing _ _ (c .before .before .from .given .0 .1 .0) (q .3 .2) (c .match2 .keys2)))
 
 pub string-spec : {M : Type 1} → statement M
 string-spec =
@@ -54,9 +92,14 @@ string-spec =
     ask-requires
     enum-known-r
     enum-told
-    enum-known-at
-    write-string-requires
+    enum-known-from
+    enum-known-read
+    sub-write-text
+    part-write-text-start
+    part-write-text-end
+    write-text-requires
     returns
     returns-2
     same-length
-    returns-3)
+    returns-3
+    returns-4)

@@ -5,14 +5,14 @@ use borrow.Author.Needs.{needs}
 use Rattle.questions.proofs.write_text.Statement.{statement}
 use Rattle.questions.proofs.write_text.Tie as tie
 
+cast-count : tie.Need-cast-count
+cast-count c = search needs
+
 returns : tie.Need-returns
 returns c = let p = c .before .before .before .pre .1 in text-full _ _ _ _ _ (p .1) (p .2) (c .if1 .taken)
 
 decode-text-requires : tie.Need-decode-text-requires
 decode-text-requires c κs = search needs
-
-cast-t11 : tie.Need-cast-t11
-cast-t11 c = search needs
 
 same-length : tie.Need-same-length
 same-length c = search needs
@@ -21,7 +21,9 @@ returns-2 : tie.Need-returns-2
 returns-2 c =
     let a = c .before .before .before .before .before .before .before .args in
     let p = c .before .before .before .before .before .before .before .pre .1 in
-    text-fits _ _ _ _ _ (p .1) (p .2) _ (omega arith) (decoded-stored (a .db .now) (a .text) (a .out .now) _ (p .0) (c .before .before .decode-text .result) (p .1) (c .before .before .decode-text .ensures))
+    let d = c .before .before .decode-text in
+    text-fits _ _ _ _ _ (p .1) (p .2) _ (omega arith) (decoded-stored (a .s .now) (a .text) (a .out .now) _ (p .0) (d .result) (p .1) (d .ensures))
 
 pub write-text-spec : {M : Type 1} → statement M
-write-text-spec = tie.close (tie.spec returns decode-text-requires cast-t11 same-length returns-2)
+write-text-spec =
+    tie.close (tie.spec cast-count returns decode-text-requires same-length returns-2)

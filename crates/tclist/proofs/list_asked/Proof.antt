@@ -1,52 +1,57 @@
--- `tclist::list_asked` is safe and ends. Assumes nothing.
-use mathlib.Core.Path.{sym}
-use native.Mathlib.Omega.{arith}
+-- `tclist::list_asked` is safe: what was read lies within the buffer. Assumes nothing.
 use borrow.Author.Needs.{needs}
-use lib.Seq.{length-take-le}
 use Rattle.tclist.proofs.list_asked.Statement.{statement}
 use Rattle.tclist.proofs.list_asked.Tie as tie
 
-buffer-requires : tie.Need-buffer-requires
-buffer-requires c κs = search needs
+slice-aggregate-read-line : tie.Need-slice-aggregate-read-line
+slice-aggregate-read-line c = search needs
 
-slice-aggregate-read-full : tie.Need-slice-aggregate-read-full
-slice-aggregate-read-full c = search needs
+read-line-requires : tie.Need-read-line-requires
+read-line-requires c κs = search needs
 
-read-full-requires : tie.Need-read-full-requires
-read-full-requires c κs = search needs
+enum-known-n : tie.Need-enum-known-n
+enum-known-n c = search needs
 
-array-share-prefix-input : tie.Need-array-share-prefix-input
-array-share-prefix-input c = search needs
-
-slice-aggregate-first-line : tie.Need-slice-aggregate-first-line
-slice-aggregate-first-line c = search needs
-
-first-line-requires : tie.Need-first-line-requires
-first-line-requires c κs = search needs
-
-array-share-prefix-input-2 : tie.Need-array-share-prefix-input-2
-array-share-prefix-input-2 c = search needs
+array-share-prefix-name : tie.Need-array-share-prefix-name
+array-share-prefix-name c =
+    let p = rw (c .before .n .given .1) at (c .before .before .before .before .read-line .ensures) in
+    p .0 .0
 
 slice-aggregate-print-listing : tie.Need-slice-aggregate-print-listing
-slice-aggregate-print-listing c = sym (length-take-le _ _ (omega (arith, c .before .first-line .ensures, c .before .before .before .before .read-full .ensures .1)))
+slice-aggregate-print-listing c =
+    let p = rw (c .before .before .n .given .1) at (c .before .before .before .before .before .read-line .ensures) in
+    p .0 .1
 
 print-listing-requires : tie.Need-print-listing-requires
 print-listing-requires c κs = search needs
 
+enum-told : tie.Need-enum-told
+enum-told c = search needs
+
+slice-aggregate-fail : tie.Need-slice-aggregate-fail
+slice-aggregate-fail c = search needs
+
+fail-requires : tie.Need-fail-requires
+fail-requires c κs = search needs
+
 returns : tie.Need-returns
 returns c = search needs
+
+returns-2 : tie.Need-returns-2
+returns-2 c = search needs
 
 pub list-asked-spec : {M : Type 1} → statement M
 list-asked-spec =
     tie.close
     (tie.spec
-    buffer-requires
-    slice-aggregate-read-full
-    read-full-requires
-    array-share-prefix-input
-    slice-aggregate-first-line
-    first-line-requires
-    array-share-prefix-input-2
+    slice-aggregate-read-line
+    read-line-requires
+    enum-known-n
+    array-share-prefix-name
     slice-aggregate-print-listing
     print-listing-requires
-    returns)
+    enum-told
+    slice-aggregate-fail
+    fail-requires
+    returns
+    returns-2)

@@ -1,4 +1,4 @@
--- `tclist::list_file` is safe and ends. Assumes nothing.
+-- `tclist::list_file` is safe: what was read lies within the buffer. Assumes nothing.
 use borrow.Author.Needs.{needs}
 use Rattle.tclist.proofs.list_file.Statement.{statement}
 use Rattle.tclist.proofs.list_file.Tie as tie
@@ -12,32 +12,42 @@ fail-requires c κs = search needs
 returns : tie.Need-returns
 returns c = search needs
 
-slice-aggregate-read-full : tie.Need-slice-aggregate-read-full
-slice-aggregate-read-full c = search needs
+slice-aggregate-read-file : tie.Need-slice-aggregate-read-file
+slice-aggregate-read-file c = search needs
 
-read-full-requires : tie.Need-read-full-requires
-read-full-requires c κs = search needs
+read-file-requires : tie.Need-read-file-requires
+read-file-requires c κs = search needs
+
+enum-known-n : tie.Need-enum-known-n
+enum-known-n c = search needs
 
 close-requires : tie.Need-close-requires
 close-requires c κs = search needs
 
-slice-aggregate-write-all : tie.Need-slice-aggregate-write-all
-slice-aggregate-write-all c = search needs
+array-share-prefix-db : tie.Need-array-share-prefix-db
+array-share-prefix-db c =
+    let p = rw (c .before .before .n .given .1) at (c .before .before .before .before .before .read-file .ensures) in
+    p .0
 
-write-all-requires : tie.Need-write-all-requires
-write-all-requires c κs = search needs
+slice-aggregate-list-database : tie.Need-slice-aggregate-list-database
+slice-aggregate-list-database c =
+    let p = rw (c .before .before .before .n .given .1) at (c .before .before .before .before .before .before .read-file .ensures) in
+    p .1
+
+list-database-requires : tie.Need-list-database-requires
+list-database-requires c κs = search needs
+
+enum-told : tie.Need-enum-told
+enum-told c = search needs
+
+fail-requires-2 : tie.Need-fail-requires-2
+fail-requires-2 c κs = search needs
+
+close-requires-2 : tie.Need-close-requires-2
+close-requires-2 c κs = search needs
 
 returns-2 : tie.Need-returns-2
 returns-2 c = search needs
-
-array-share-prefix-db : tie.Need-array-share-prefix-db
-array-share-prefix-db c = search needs
-
-slice-aggregate-list-asked : tie.Need-slice-aggregate-list-asked
-slice-aggregate-list-asked c = search needs
-
-list-asked-requires : tie.Need-list-asked-requires
-list-asked-requires c κs = search needs
 
 returns-3 : tie.Need-returns-3
 returns-3 c = search needs
@@ -49,13 +59,15 @@ list-file-spec =
     open-read-requires
     fail-requires
     returns
-    slice-aggregate-read-full
-    read-full-requires
+    slice-aggregate-read-file
+    read-file-requires
+    enum-known-n
     close-requires
-    slice-aggregate-write-all
-    write-all-requires
-    returns-2
     array-share-prefix-db
-    slice-aggregate-list-asked
-    list-asked-requires
+    slice-aggregate-list-database
+    list-database-requires
+    enum-told
+    fail-requires-2
+    close-requires-2
+    returns-2
     returns-3)

@@ -1,7 +1,7 @@
 -- `termcap::termcap_show` meets its contract: the ends of the part that is shown, as start and length. Assumes nothing.
 use mathlib.Core.Path.{sym}
 use native.Mathlib.Omega.{arith}
-use Rattle.questions.proofs.Terminals.{show-inside}
+use Rattle.show.proofs.ShownParts.{show-inside}
 use borrow.Author.Needs.{needs}
 use Rattle.termcap.proofs.termcap_show.Statement.{statement}
 use Rattle.termcap.proofs.termcap_show.Tie as tie

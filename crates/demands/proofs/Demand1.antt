@@ -1,0 +1,125 @@
+-- Demand 1 holds of the operations with output. Assumes nothing.
+use Prim.Native.Nat.{ℕ, _*_}
+use mathlib.Core.Path.{_≡_, refl, sym, ap, _∙_}
+use mathlib.Core.Bool.{Bool, true, false}
+use mathlib.Core.List.{List, _++_}
+use native.Mathlib.Omega.{arith}
+use borrow.Author.Tests.{leb-true}
+use lib.Dec.{leb}
+use lib.ListN.{length, drop, length-append, length-drop}
+use lib.Seq.{drop-at}
+use Rattle.spec.specs.Choice.{pick}
+use Rattle.spec.specs.Fields.{reading}
+use Rattle.spec.specs.Chain.{Terminal, refused, terminal}
+use Rattle.spec.specs.Lookup.{Hit, none, hit, lookup, winning, bytesOf}
+use Rattle.spec.specs.Answers.{Outcome, keeping, put}
+use Rattle.spec.specs.Questions.{terminalOf, terminalFor, presented, decodedOutcome, stringFor, stringOutcome}
+use Rattle.spec.specs.Listing.{records, listFor, listOutcome, flatText, flatFor, flatOutcome}
+use Rattle.spec.specs.Sending.{Outgoing, sends, stops, outgoing, outgoingAt, delivered, sendOutcome, sendAtOutcome}
+use Rattle.spec.proofs.Winning.{winning-wins}
+use Rattle.spec.proofs.Records.{records-length}
+use Rattle.spec.specs.declared.Refusal.{Refusal}
+use Rattle.spec.specs.declared.Refusal.the-variants.{NoRoom}
+use Rattle.spec.specs.declared.Answer.{Answer}
+use Rattle.spec.specs.declared.Answer.the-variants.{Present, Absent, Refused as NotAnswered}
+use Rattle.spec.specs.declared.Written.{Written}
+use Rattle.spec.specs.declared.Written.the-variants.{Count, Refused}
+use Rattle.demands.specs.Demand1.{OnlyFirst, Writes, Answers, Demand1}
+
+-- ---- a buffer that is kept
+
+kept : (size : ℕ) (r : Refusal) (buffer : List ℕ) → Writes size buffer (keeping (Refused r) buffer)
+kept size r buffer = record { refused = λ s e. refl; accepted = λ n e. let z : _≡_ {A = ℕ} 0 1 = cc in absurd (omega arith) }
+
+-- ---- bytes that are put at a buffer's start, and reported as n things
+
+written : (size : ℕ) (bytes : List ℕ) (n : ℕ) (buffer : List ℕ) → length bytes ≡ size * n → Writes size buffer (put bytes n buffer)
+unfolding put
+written size bytes n buffer whole = go (leb (length bytes) (length buffer)) refl
+  where
+    full : Outcome Written
+    full = record { answer = Count n; buffer = bytes ++ drop (length bytes) buffer }
+
+    go : (t : Bool) → leb (length bytes) (length buffer) ≡ t → Writes size buffer (pick t full (keeping (Refused NoRoom) buffer))
+    go true e =
+        let fits = leb-true (length bytes) (length buffer) e in
+        let only : OnlyFirst (length bytes) buffer (bytes ++ drop (length bytes) buffer) = record {
+          fit = fits;
+          as-long = length-append bytes (drop (length bytes) buffer) ∙ rw (length-drop (length bytes) buffer) (omega (arith, fits));
+          rest = drop-at bytes (drop (length bytes) buffer) (length bytes) refl;
+        } in
+        record {
+          refused = λ r f. let z : _≡_ {A = ℕ} 0 1 = cc in absurd (omega arith);
+          accepted = λ m f. let same : n ≡ m = cc in rw (← same, ← whole) only;
+        }
+    go false e = kept size NoRoom buffer
+
+delivered-writes : (x : Outgoing) (buffer : List ℕ) → Writes 1 buffer (delivered x buffer)
+unfolding delivered
+delivered-writes (sends l) buffer = written 1 l (length l) buffer (omega arith)
+delivered-writes (stops r) buffer = kept 1 r buffer
+
+-- ---- String
+
+presented-answers : (buffer : List ℕ) (o : Outcome Written) → Writes 1 buffer o → Answers buffer (record { answer = presented (o .answer); buffer = o .buffer })
+presented-answers buffer o w = go (o .answer) refl
+  where
+    go : (a : Written) → o .answer ≡ a → Answers buffer (record { answer = presented a; buffer = o .buffer })
+    go (Count n) e = record {
+      refused = λ r f. let z : _≡_ {A = ℕ} 0 1 = cc in absurd (omega arith);
+      absent = λ f. let z : _≡_ {A = ℕ} 0 1 = cc in absurd (omega arith);
+      present = λ m f. let same : n ≡ m = cc in let one : 1 * n ≡ m = omega (arith, same) in rw (← one) (w .accepted n e);
+    }
+    go (Refused s) e = record {
+      refused = λ r f. w .refused s e;
+      absent = λ f. let z : _≡_ {A = ℕ} 0 1 = cc in absurd (omega arith);
+      present = λ m f. let z : _≡_ {A = ℕ} 0 1 = cc in absurd (omega arith);
+    }
+
+kept-answer : (r : Refusal) (buffer : List ℕ) → Answers buffer (keeping (NotAnswered r) buffer)
+kept-answer r buffer = record {
+  refused = λ s e. refl;
+  absent = λ e. refl;
+  present = λ n e. let z : _≡_ {A = ℕ} 0 1 = cc in absurd (omega arith);
+}
+
+kept-absent : (buffer : List ℕ) → Answers buffer (keeping Absent buffer)
+kept-absent buffer = record {
+  refused = λ s e. refl;
+  absent = λ e. refl;
+  present = λ n e. let z : _≡_ {A = ℕ} 0 1 = cc in absurd (omega arith);
+}
+
+decoded-answers : (h : Hit) (buffer : List ℕ) → Answers buffer (decodedOutcome h buffer)
+unfolding decodedOutcome
+decoded-answers none buffer = kept-absent buffer
+decoded-answers (hit f) buffer =
+    let bytes = bytesOf (reading f) in
+    presented-answers buffer (put bytes (length bytes) buffer) (written 1 bytes (length bytes) buffer (omega arith))
+
+string-answers : (id : List ℕ) (t : Terminal) (buffer : List ℕ) → Answers buffer (stringFor id t buffer)
+unfolding stringFor
+string-answers id (refused r) buffer = kept-answer r buffer
+string-answers id (terminal names fs) buffer = decoded-answers (lookup id 3 fs) buffer
+
+-- ---- List and Flat
+
+list-writes : (t : Terminal) (buffer : List ℕ) → Writes 8 buffer (listFor t buffer)
+unfolding listFor
+list-writes (refused r) buffer = kept 8 r buffer
+list-writes (terminal names fs) buffer = written 8 (records (winning fs)) (length (winning fs)) buffer (records-length (winning fs) (winning-wins fs))
+
+flat-writes : (t : Terminal) (buffer : List ℕ) → Writes 1 buffer (flatFor t buffer)
+unfolding flatFor
+flat-writes (refused r) buffer = kept 1 r buffer
+flat-writes (terminal names fs) buffer = written 1 (flatText names fs) (length (flatText names fs)) buffer (omega arith)
+
+pub demand-1 : Demand1
+unfolding stringOutcome listOutcome flatOutcome sendOutcome sendAtOutcome
+demand-1 = record {
+  string = λ db name id buffer. string-answers id (terminalFor db name id) buffer;
+  list = λ db name buffer. list-writes (terminalOf db name) buffer;
+  flat = λ db name buffer. flat-writes (terminalOf db name) buffer;
+  send = λ cmd lines speed pad buffer. delivered-writes (outgoing cmd lines speed pad) buffer;
+  send-at = λ cmd row column back up lines speed pad buffer. delivered-writes (outgoingAt cmd row column back up lines speed pad) buffer;
+}

@@ -1,0 +1,41 @@
+-- DEMAND 1, of the operations with output: "a refused call changes no byte of the output buffer; an accepted one changes only the bytes it
+-- reports". That each refusal comes exactly when it is due is what the operations' definitions say, and their functions' promises.
+use Prim.Native.Nat.{ℕ, _*_, _≤_}
+use mathlib.Core.Path.{_≡_}
+use mathlib.Core.List.{List}
+use lib.ListN.{length, drop}
+use Rattle.spec.specs.Answers.{Outcome}
+use Rattle.spec.specs.Questions.{stringOutcome}
+use Rattle.spec.specs.Listing.{listOutcome, flatOutcome}
+use Rattle.spec.specs.Sending.{sendOutcome, sendAtOutcome}
+use Rattle.spec.specs.declared.Refusal.{Refusal}
+use Rattle.spec.specs.declared.Answer.{Answer}
+use Rattle.spec.specs.declared.Answer.the-variants.{Present, Absent, Refused as NotAnswered}
+use Rattle.spec.specs.declared.Written.{Written}
+use Rattle.spec.specs.declared.Written.the-variants.{Count, Refused}
+
+-- So many bytes fit a buffer, and behind them, up to its end, it is as it was.
+pub record OnlyFirst (n : ℕ) (before after : List ℕ) : Type 0 where
+  pub fit : n ≤ length before
+  pub as-long : length after ≡ length before
+  pub rest : drop n after ≡ drop n before
+
+-- A call that writes and reports a count, of things of so many bytes each.
+pub record Writes (size : ℕ) (buffer : List ℕ) (o : Outcome Written) : Type 0 where
+  pub refused : (r : Refusal) → o .answer ≡ Refused r → o .buffer ≡ buffer
+  pub accepted : (n : ℕ) → o .answer ≡ Count n → OnlyFirst (size * n) buffer (o .buffer)
+
+-- A question that writes: "absent is no refusal, and writes nothing".
+pub record Answers (buffer : List ℕ) (o : Outcome Answer) : Type 0 where
+  pub refused : (r : Refusal) → o .answer ≡ NotAnswered r → o .buffer ≡ buffer
+  pub absent : o .answer ≡ Absent → o .buffer ≡ buffer
+  pub present : (n : ℕ) → o .answer ≡ Present n → OnlyFirst n buffer (o .buffer)
+
+-- THE STATEMENT, for every input. Its proof is proofs/Demand1.
+pub record Demand1 : Type 0 where
+  pub string : (db name id buffer : List ℕ) → Answers buffer (stringOutcome db name id buffer)
+  pub list : (db name buffer : List ℕ) → Writes 8 buffer (listOutcome db name buffer)
+  pub flat : (db name buffer : List ℕ) → Writes 1 buffer (flatOutcome db name buffer)
+  pub send : (cmd : List ℕ) (lines speed pad : ℕ) (buffer : List ℕ) → Writes 1 buffer (sendOutcome cmd lines speed pad buffer)
+  pub send-at : (cmd : List ℕ) (row column : ℕ) (back up : List ℕ) (lines speed pad : ℕ) (buffer : List ℕ)
+      → Writes 1 buffer (sendAtOutcome cmd row column back up lines speed pad buffer)

@@ -1,0 +1,135 @@
+// The lookup: which field of a chain answers for an id and a kind.
+use chain::Chain;
+use chain::MOST_DESCRIPTIONS;
+use field_bounds::AfterNames;
+use field_bounds::Bounds;
+use field_bounds::after_names;
+use field_bounds::field_byte;
+use field_bounds::next_bounds;
+use fields::FieldRead;
+use fields::NextField;
+use fields::next_field;
+use lines::Step;
+use spec::Kind;
+ghost use mathlib.Core.Path.{_≡_};
+ghost use mathlib.Core.List.{[], _∷_};
+ghost use lib.Dec.{eqb};
+ghost use Rattle.spec.specs.Lines.{lineAt};
+ghost use Rattle.spec.specs.Fields.{split, kindNumber};
+ghost use Rattle.spec.specs.Chain.{joinedFields};
+ghost use Rattle.field_bounds.specs.Answers.{fieldAt};
+ghost use Rattle.chain.specs.Answers.{placesOf};
+ghost use Rattle.lookup.specs.Answers.{hasName, hasKind, Matched, Scanned, LookedUp};
+
+// What a field with the asked name is to a question: it is passed over, it is a cancel, or it answers.
+enum Match {
+    Passes,
+    Cancels,
+    Answers,
+}
+
+// What the fields of one line say: the lookup goes on, a cancel ends it, or a field answers, and is read so.
+enum LineHit {
+    Open,
+    Cancelled,
+    Answered(FieldRead),
+}
+
+// What a lookup finds in a chain: nothing; or the part of the database where the fields of a line start, and what the field that answers is
+// read as there.
+pub enum ChainHit {
+    Nothing,
+    Field(usize, FieldRead),
+}
+
+// Whether the field at a place starts with two bytes.
+fn has_name(s: &[u8], at: usize, a: u8, b: u8) -> bool
+    ensures { λ r. ⌜ r ≡ hasName (a ∷ b ∷ []) (fieldAt (now (s .entry)) at) ⌝ }
+{
+    let Step::Byte(x, i) = field_byte(s, at) else {
+        return false;
+    };
+    if a != x {
+        return false;
+    }
+    let Step::Byte(y, _) = field_byte(s, i) else {
+        return false;
+    };
+    b == y
+}
+
+// A capability with the asked name, whose kind has the number `of` (0 for a cancel), for a question about a kind.
+fn match_kind(of: u8, kind: u8) -> Match
+    ensures { λ r. ⌜ Matched (eqb 0 of) (eqb kind of) r ⌝ }
+{
+    if of == 0 {
+        return Match::Cancels;
+    }
+    if of == kind {
+        return Match::Answers;
+    }
+    Match::Passes
+}
+
+// A field that starts with the asked name.
+fn match_read(read: FieldRead, kind: u8) -> Match
+    ensures { λ r. ⌜ Matched (hasKind 0 read) (hasKind kind read) r ⌝ }
+{
+    match read {
+        FieldRead::Cancel(_, _) => match_kind(0, kind),
+        FieldRead::Flag(_, _) => match_kind(Kind::FLAG, kind),
+        FieldRead::Number(_, _, _) => match_kind(Kind::NUMBER, kind),
+        FieldRead::String(_, _, _, _) => match_kind(Kind::STRING, kind),
+        _ => Match::Passes,
+    }
+}
+
+// Over the fields of the part of the database that starts after a line's names. Only a field that starts with the asked name is read.
+fn scan_fields(s: &[u8], a: u8, b: u8, kind: u8) -> LineHit
+    ensures { λ r. ⌜ Scanned (a ∷ b ∷ []) kind (split (lineAt (now (s .entry)) 0)) (now (s .entry)) r ⌝ }
+{
+    let mut at = 0;
+    loop {
+        if !has_name(s, at, a, b) {
+            let Bounds::Field(_, next) = next_bounds(s, at) else {
+                return LineHit::Open;
+            };
+            at = next;
+            continue;
+        }
+        let NextField::Field(read, _, next) = next_field(s, at) else {
+            return LineHit::Open;
+        };
+        match match_read(read, kind) {
+            Match::Cancels => return LineHit::Cancelled,
+            Match::Answers => return LineHit::Answered(read),
+            Match::Passes => at = next,
+        }
+    }
+}
+
+// "The first field of that name and kind, unless a cancel of that name stands earlier." A chain has no more places than its array, whatever
+// its count is.
+pub fn look_up(db: &[u8], c: Chain, a: u8, b: u8, kind: Kind) -> ChainHit
+    ensures { λ r. ⌜ LookedUp (a ∷ b ∷ []) (kindNumber kind) (joinedFields (now (db .entry)) 0 (placesOf c)) (now (db .entry)) r ⌝ }
+{
+    let places = c.places;
+    let n = c.count;
+    let number = kind.number();
+    let mut i = 0;
+    while i < n {
+        if i >= MOST_DESCRIPTIONS {
+            return ChainHit::Nothing;
+        }
+        let AfterNames::At(from, _) = after_names(db, places[i]) else {
+            i += 1;
+            continue;
+        };
+        match scan_fields(&db[from..], a, b, number) {
+            LineHit::Open => i += 1,
+            LineHit::Cancelled => return ChainHit::Nothing,
+            LineHit::Answered(read) => return ChainHit::Field(from, read),
+        }
+    }
+    ChainHit::Nothing
+}
