@@ -23,7 +23,7 @@ pub fn show(database: &[u8], name: &[u8]) -> Result<Part, Refusal> {
     check_name(name)?;
     check_database(database)?;
     let lines = logical_lines(database);
-    let place = find_line(&lines, name).ok_or(NO_DESCRIPTION)?;
+    let place = find_line(&lines, name).ok_or(UNKNOWN_NAME)?;
     let line = &lines[place];
     Ok(Part { start: line.start, length: line.end - line.start })
 }
@@ -167,13 +167,13 @@ impl<'a> Reader<'a> {
 pub const BAD_NAME: Refusal = 1;
 pub const BAD_ID: Refusal = 2;
 pub const DATABASE_TOO_LARGE: Refusal = 3;
-pub const NO_DESCRIPTION: Refusal = 4;
+pub const UNKNOWN_NAME: Refusal = 4;
 pub const LINK_NOWHERE: Refusal = 5;
 pub const MALFORMED: Refusal = 6;
 pub const LINK_INTO_CHAIN: Refusal = 7;
 pub const CHAIN_TOO_LARGE: Refusal = 8;
 pub const NO_ROOM: Refusal = 9;
-pub const BAD_PERCENT: Refusal = 10;
+pub const UNKNOWN_SEQUENCE: Refusal = 10;
 pub const TOO_FEW_PARAMETERS: Refusal = 11;
 pub const OUT_OF_RANGE: Refusal = 12;
 pub const BAD_PADDING: Refusal = 13;
@@ -248,7 +248,7 @@ fn walk(database: &[u8], name: &[u8]) -> Result<Vec<Description>, Refusal> {
         let found = find_line(&lines, &wanted);
         let place = match found {
             Some(place) => place,
-            None if chain.is_empty() => return Err(NO_DESCRIPTION),
+            None if chain.is_empty() => return Err(UNKNOWN_NAME),
             None => return Err(LINK_NOWHERE),
         };
         // "Only the line counts; a name may be shadowed" (slips we have seen).
@@ -724,7 +724,7 @@ impl Filling<'_> {
             [b'B', ..] => self.change_next(binary_coded).map(|()| 2),
             [b'D', ..] => self.change_next(reverse_coded).map(|()| 2),
             // 10: "unknown, or cut off, percent sequence".
-            _ => Err(BAD_PERCENT),
+            _ => Err(UNKNOWN_SEQUENCE),
         }
     }
 

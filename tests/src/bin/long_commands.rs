@@ -29,11 +29,11 @@ fn main() -> ExitCode {
         let caller = thread::Builder::new().stack_size(STACK);
         let sending = caller.spawn(move || is_sent(part, sent)).expect("a thread can be started");
         if !sending.join().unwrap_or(false) {
-            println!("stack: {name:?} repeated is not sent as it should be");
+            println!("long_commands: {name:?} repeated is not sent as it should be");
             return ExitCode::FAILURE;
         }
     }
-    println!("stack: {} commands of up to {MOST} bytes on a stack of {STACK}", COMMANDS.len());
+    println!("long_commands: {} commands of up to {MOST} bytes on a stack of {STACK}", COMMANDS.len());
     ExitCode::SUCCESS
 }
 

@@ -1,0 +1,138 @@
+/*
+ * No call needs more stack than termcap_proved.h says. Each is made by a thread whose stack was
+ * filled with one byte before: the lowest byte that has changed tells how deep the call went. A
+ * thread that makes no call is measured, too, and taken off.
+ */
+#define _GNU_SOURCE
+#include <pthread.h>
+#include <stdio.h>
+#include <stdlib.h>
+#include <string.h>
+
+#include "termcap_proved.h"
+
+enum { STACK = 1 << 20, PAINT = 0xA5, CALLS = 8 };
+enum { NONE = CALLS };
+
+static uint8_t stack[STACK] __attribute__((aligned(4096)));
+static uint8_t db[1048576], out[1 << 17], command[16384];
+static size_t db_len, command_len;
+static const char *name = "";
+
+static const char *const calls[CALLS] = {"show", "flag", "number", "string",
+                                         "list", "flat", "send",   "send_at"};
+static const size_t most[CALLS] = {TERMCAP_STACK_SHOW,     TERMCAP_STACK_QUESTION,
+                                   TERMCAP_STACK_QUESTION, TERMCAP_STACK_QUESTION,
+                                   TERMCAP_STACK_LIST,     TERMCAP_STACK_LIST,
+                                   TERMCAP_STACK_SEND,     TERMCAP_STACK_SEND};
+static size_t measured[CALLS];
+
+static void *call(void *which)
+{
+    const uint8_t *n = (const uint8_t *)name, *id = (const uint8_t *)"cm";
+    size_t n_len = strlen(name);
+    uint64_t x, y;
+    switch (*(int *)which) {
+    case 0: termcap_show(db, db_len, n, n_len, &x, &y); break;
+    case 1: termcap_flag(db, db_len, n, n_len, id, 2, &x); break;
+    case 2: termcap_number(db, db_len, n, n_len, id, 2, &x); break;
+    case 3: termcap_string(db, db_len, n, n_len, id, 2, out, sizeof out, &x); break;
+    case 4: termcap_list(db, db_len, n, n_len, out, sizeof out, &x); break;
+    case 5: termcap_flat(db, db_len, n, n_len, out, sizeof out, &x); break;
+    case 6: termcap_send(command, command_len, 1, 9600, 0, out, sizeof out, &x); break;
+    case 7:
+        termcap_send_at(command, command_len, 9, 10, n, n_len, n, n_len, 1, 9600, 0, out, sizeof out,
+                        &x);
+        break;
+    }
+    return NULL;
+}
+
+static size_t depth(int which)
+{
+    pthread_attr_t attributes;
+    pthread_t thread;
+    size_t i = 0;
+    memset(stack, PAINT, STACK);
+    if (pthread_attr_init(&attributes) != 0 ||
+        pthread_attr_setstack(&attributes, stack, STACK) != 0 ||
+        pthread_create(&thread, &attributes, call, &which) != 0 ||
+        pthread_join(thread, NULL) != 0) {
+        perror("tests/stack.c");
+        exit(2);
+    }
+    while (i < STACK && stack[i] == PAINT) {
+        i++;
+    }
+    return STACK - i;
+}
+
+static void measure(int from, int to)
+{
+    for (int which = from; which < to; which++) {
+        size_t without = depth(NONE), with = depth(which);
+        if (with > without && with - without > measured[which]) {
+            measured[which] = with - without;
+        }
+    }
+}
+
+static void ask(const char *terminal)
+{
+    name = terminal;
+    measure(0, 6);
+}
+
+static void add(const char *line)
+{
+    memcpy(db + db_len, line, strlen(line));
+    db_len += strlen(line);
+}
+
+/* Other terminals, and then a chain of 32 with each kind of field. */
+static void fill_database(size_t others)
+{
+    char line[200];
+    db_len = 0;
+    while (db_len < others) {
+        sprintf(line, "t%zu|a terminal with a long name:am:\\\n\t:co#80:cl=5\\E[H:\n", db_len);
+        add(line);
+    }
+    for (int i = 0; i < 31; i++) {
+        sprintf(line, "c%d|chain:a%c:n%c#%d:s%c=\\E\\012^A:.x:\\\n\t:tc=c%d:\n", i, 'A' + i,
+                'A' + i, i, 'A' + i, i + 1);
+        add(line);
+    }
+    add("c31:am:co#80:cm=\\E[%i%d;%dH:xx@:\n");
+    ask("c0");
+    ask("c31");
+    ask("nowhere");
+}
+
+static void send_repeated(const char *part, size_t size)
+{
+    for (command_len = 0; command_len + strlen(part) <= size; command_len += strlen(part)) {
+        memcpy(command + command_len, part, strlen(part));
+    }
+    measure(6, CALLS);
+}
+
+int main(void)
+{
+    static const char *const parts[] = {"A",     "%%",  "A%%",  "A%n",        "A%r",  "A%i%n",
+                                        "A%>zz", "A%B", "A%D",  "A%.%+A",     "%d%d", "A%d%d%d",
+                                        "A%x",   "A%3", "A%2A", "99.9*A%i%d", "A%"};
+    int good = 1;
+    depth(NONE);
+    fill_database(0);
+    fill_database(1000000);
+    for (size_t i = 0; i < sizeof parts / sizeof parts[0]; i++) {
+        send_repeated(parts[i], strlen(parts[i]));
+        send_repeated(parts[i], sizeof command);
+    }
+    for (int which = 0; which < CALLS; which++) {
+        printf("stack: termcap_%s %zu, at most %zu\n", calls[which], measured[which], most[which]);
+        good = good && measured[which] <= most[which];
+    }
+    return good ? 0 : 1;
+}
