@@ -2,7 +2,7 @@
  * Asks a terminal for its width, clears its screen and moves its cursor, printing what would be
  * sent. From this folder:
  *
- *   cc -std=c99 -Wall -Wextra -pedantic example.c -L../../target/staticlib -ltermcap -o example
+ *   cc -std=c99 -Wall -Wextra -pedantic -o example example.c ../../target/staticlib/libtermcap.a
  *   ./example ../../data/sample.tc vt100
  */
 #include <stdio.h>
@@ -14,19 +14,19 @@ enum { SPEED = 9600, PAD = 0 };
 
 static const char *const refusals[] = {
     "",
-    "the asked name is no name",
-    "the id is no id",
-    "the database is too large",
-    "no description has the asked name",
-    "a link's name is found nowhere",
-    "a description in the chain is malformed",
-    "a link leads to a line already in the chain",
-    "the chain is too long or too large",
-    "the output doesn't fit the buffer",
-    "unknown or cut off percent sequence",
-    "too few unused parameters",
-    "a number out of its range",
-    "too many digits in the padding",
+    "the terminal's name is not 1 to 64 printable bytes without | : and \\",
+    "the capability's id is not two printable bytes without : and \\, begins with a point, or is tc",
+    "the database has more than 1,048,576 bytes",
+    "no terminal in the database has this name",
+    "a description links to a terminal that is not in the database",
+    "a description of the terminal is malformed",
+    "a description links back to one that was read before",
+    "the terminal has more than 32 descriptions, or over 16,384 bytes of them",
+    "the output does not fit the buffer",
+    "the command has an unknown or unfinished percent sequence",
+    "the command uses more parameters than there are",
+    "a number is out of its range",
+    "the command's padding has too many digits",
 };
 
 /* One byte over the library's limit, so that too large a file is refused by the library itself. */
@@ -70,11 +70,20 @@ static uint32_t ask_string(const char *id, uint8_t *out, size_t out_len, uint64_
     return termcap_string(db, db_len, name, name_len, (const uint8_t *)id, 2, out, out_len, count);
 }
 
-/* A string that may be missing: absent leaves *count as it is, which is 0. */
-static int ask_optional(const char *id, uint8_t *out, size_t out_len, uint64_t *count)
+/*
+ * A string that moves the cursor, without its padding: Send gives it so at speed 0. It may be
+ * missing: absent leaves *count as it is, which is 0.
+ */
+static int ask_motion(const char *id, uint8_t *out, size_t out_len, uint64_t *count)
 {
-    uint32_t result = ask_string(id, out, out_len, count);
-    return result == TERMCAP_ABSENT || accepted(id, result);
+    static uint8_t motion[TERMCAP_STRING_BYTES];
+    uint64_t motion_len = 0;
+    uint32_t result = ask_string(id, motion, sizeof motion, &motion_len);
+    if (result == TERMCAP_ABSENT) {
+        return 1;
+    }
+    return accepted(id, result) &&
+           accepted(id, termcap_send(motion, (size_t)motion_len, 1, 0, PAD, out, out_len, count));
 }
 
 static int show_width(void)
@@ -119,8 +128,8 @@ static int show_move(uint64_t row, uint64_t column)
     }
     printf("cm: ");
     print_bytes(command, command_len);
-    if (!ask_optional("le", back, sizeof back, &back_len) ||
-        !ask_optional("up", up, sizeof up, &up_len)) {
+    if (!ask_motion("le", back, sizeof back, &back_len) ||
+        !ask_motion("up", up, sizeof up, &up_len)) {
         return 0;
     }
     if (!accepted("cm sent", termcap_send_at(command, (size_t)command_len, row, column, back,

@@ -1,5 +1,6 @@
 /*
- * termcap_proved.h: the C side of the static library libtermcap.a.
+ * termcap_proved.h: the C side of the static library libtermcap.a. Link the archive by its path:
+ * -ltermcap is the name of another library on many systems.
  *
  * Slices. A slice passes as a pointer and a length in bytes. Pointers must be valid for that length
  * and must not be null; an empty slice, too, needs a pointer that is not null. `out` and the numbers
@@ -14,6 +15,12 @@
  * (4 for the first, else 5), then 7, then the 33rd description (8), then 6, then the size (8), then
  * the next link. Send and Send at: 12 for the inputs, 13, then faults from left to right through the
  * body (10 to 12), then 9.
+ *
+ * Threads. The library has no state and allocates nothing: a function may be called from any thread,
+ * and from several at once, if their buffers are apart.
+ *
+ * Stack. TERMCAP_STACK_... below say how many bytes of stack a call needs at most, whatever its input.
+ * They are measured, not proved.
  */
 #ifndef TERMCAP_PROVED_H
 #define TERMCAP_PROVED_H
@@ -37,7 +44,7 @@ extern "C" {
 /* The database is over 1,048,576 bytes. */
 #define TERMCAP_DATABASE_TOO_LARGE 3u
 /* No description has the asked name. */
-#define TERMCAP_NO_DESCRIPTION 4u
+#define TERMCAP_UNKNOWN_NAME 4u
 /* A link's name is found nowhere. */
 #define TERMCAP_LOST_LINK 5u
 /* A description in the chain is malformed. */
@@ -49,7 +56,7 @@ extern "C" {
 /* The output doesn't fit the lent buffer. */
 #define TERMCAP_NO_ROOM 9u
 /* An unknown, or cut off, percent sequence. */
-#define TERMCAP_BAD_PERCENT 10u
+#define TERMCAP_UNKNOWN_SEQUENCE 10u
 /* Too few unused parameters. */
 #define TERMCAP_TOO_FEW_PARAMETERS 11u
 /* A number out of its range. */
@@ -63,6 +70,13 @@ extern "C" {
 #define TERMCAP_LIST_BYTES 43680u
 #define TERMCAP_FLAT_BYTES 16385u
 #define TERMCAP_STRING_BYTES 16384u
+
+/* The stack a call needs, in bytes: of termcap_show; of termcap_flag, termcap_number and
+ * termcap_string; of termcap_list and termcap_flat; of termcap_send and termcap_send_at. */
+#define TERMCAP_STACK_SHOW 5120u
+#define TERMCAP_STACK_QUESTION 7168u
+#define TERMCAP_STACK_LIST 37888u
+#define TERMCAP_STACK_SEND 4096u
 
 /* The kinds in a record. */
 #define TERMCAP_KIND_FLAG 1u
@@ -135,14 +149,14 @@ uint32_t termcap_flat(const uint8_t *db, size_t db_len, const uint8_t *name, siz
 /*
  * Send: the body of a decoded command and its padding. Percent signs are copied unchanged. The
  * padding prefix is digits, then maybe a point and a digit, then maybe a star; it is milliseconds,
- * times `lines` if starred. At `speed` bits a second, ten bits a byte, that many bytes `pad` are
+ * times `line_count` if starred. At `speed` bits a second, ten bits a byte, that many bytes `pad` are
  * appended, rounded up.
  *
  * TERMCAP_OK: the first *count bytes of `out` are the body, then the pads.
- * Refusals: 9, 12 (`lines` outside 1..1,000 or `speed` over 115,200), 13.
+ * Refusals: 9, 12 (`line_count` outside 1..1,000 or `speed` over 115,200), 13.
  */
-uint32_t termcap_send(const uint8_t *command, size_t command_len, uint64_t lines, uint64_t speed,
-                      uint8_t pad, uint8_t *out, size_t out_len, uint64_t *count);
+uint32_t termcap_send(const uint8_t *command, size_t command_len, uint64_t line_count,
+                      uint64_t speed, uint8_t pad, uint8_t *out, size_t out_len, uint64_t *count);
 
 /*
  * Send at: as Send, with the position filled into the body. `row` and `column` count from 0, up to
@@ -150,13 +164,17 @@ uint32_t termcap_send(const uint8_t *command, size_t command_len, uint64_t lines
  * follows `back` for a column and `up` for a row, as they stand. Both empty: nothing is raised. Only
  * `back` empty: byte 8 stands for it. Only `up` empty: rows aren't raised.
  *
+ * A padding prefix of `back` or `up` would be sent, too, and show on the screen. So a string of the
+ * terminal (`le`, `up`) goes through termcap_send first, for one line at speed 0, which gives it
+ * without its prefix and with no pads.
+ *
  * TERMCAP_OK: the first *count bytes of `out` are the body, the compensations, then the pads.
  * Refusals: 9 to 13.
  */
 uint32_t termcap_send_at(const uint8_t *command, size_t command_len, uint64_t row, uint64_t column,
                          const uint8_t *back, size_t back_len, const uint8_t *up, size_t up_len,
-                         uint64_t lines, uint64_t speed, uint8_t pad, uint8_t *out, size_t out_len,
-                         uint64_t *count);
+                         uint64_t line_count, uint64_t speed, uint8_t pad, uint8_t *out,
+                         size_t out_len, uint64_t *count);
 
 #ifdef __cplusplus
 }

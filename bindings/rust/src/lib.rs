@@ -29,7 +29,20 @@
 //! # Panics
 //!
 //! No function panics with a library that keeps its contract.
+//!
+//! # Threads and stack
+//!
+//! The library has no state and allocates nothing: its functions may be called from any thread, and
+//! from several at once. The stack that a call takes in it was measured, whatever its input:
+//!
+//! | Functions | Bytes at most |
+//! |---|---|
+//! | [`Database::show`] | 5,120 |
+//! | [`Database::flag`], [`Database::number`], [`Database::string`] | 7,168 |
+//! | [`Database::list`], [`Database::flat`] | 37,888 |
+//! | [`send`], [`send_at`] | 4,096 |
 
+#![deny(missing_docs)]
 #![deny(unsafe_code)]
 
 mod record;
@@ -117,7 +130,7 @@ impl<'a> Database<'a> {
     /// let database = Database::new(b"oven:am:\nkiln:am@:tc=oven:\n");
     /// assert_eq!(database.flag("oven", "am"), Ok(true));
     /// assert_eq!(database.flag("kiln", "am"), Ok(false));
-    /// assert_eq!(database.flag("press", "am"), Err(Refusal::NoDescription));
+    /// assert_eq!(database.flag("press", "am"), Err(Refusal::UnknownName));
     /// ```
     pub fn flag(&self, name: impl AsRef<[u8]>, id: impl AsRef<[u8]>) -> Result<bool, Refusal> {
         let mut value = 0;
@@ -275,16 +288,38 @@ impl Default for Line {
 ///
 /// A position byte of 0, 9 or 10 may not survive the way to the terminal. It is sent as one more,
 /// and the cursor is then moved back: by `back` for a column, by `up` for a row.
+///
+/// Both are sent as they stand. A terminal's string may begin with padding, whose digits would show
+/// on the screen; [`send`] at speed 0 gives the string without it:
+///
+/// ```
+/// # use termcap_proved::{send, send_at, Database, Line, Position, Refusal};
+/// # fn main() -> Result<(), Refusal> {
+/// let database = Database::new(br"act4:le=^H:up=2\E[A:cm=^T%.%.:");
+/// let motion = |id| -> Result<Vec<u8>, Refusal> {
+///     let string = database.string("act4", id)?.unwrap_or_default();
+///     send(string, &Line { speed: 0, ..Line::default() })
+/// };
+/// let (back, up) = (motion("le")?, motion("up")?);
+/// assert_eq!(up, b"\x1B[A");
+///
+/// let position = Position { row: 10, column: 3, back: &back, up: &up };
+/// let move_cursor = database.string("act4", "cm")?.expect("act4 has it");
+/// assert_eq!(send_at(move_cursor, &position, &Line::default())?, b"\x14\x0B\x03\x1B[A");
+/// # Ok(())
+/// # }
+/// ```
 #[derive(Clone, Copy, Debug, Default, PartialEq, Eq)]
 pub struct Position<'a> {
     /// From 0 to 9,999.
     pub row: u64,
     /// From 0 to 9,999.
     pub column: u64,
-    /// Moves the cursor one column back; if only this is empty, byte 8 stands for it.
+    /// Moves the cursor one column back, without padding; if only this is empty, byte 8 stands for
+    /// it.
     pub back: &'a [u8],
-    /// Moves the cursor one row up; if this is empty, rows are sent as they are, and if both are
-    /// empty, so are columns.
+    /// Moves the cursor one row up, without padding; if this is empty, rows are sent as they are,
+    /// and if both are empty, so are columns.
     pub up: &'a [u8],
 }
 

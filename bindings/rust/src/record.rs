@@ -2,8 +2,11 @@
 #[derive(Clone, Copy, Debug, PartialEq, Eq, Hash)]
 #[repr(u8)]
 pub enum Kind {
+    /// A name alone, as `am`.
     Flag = 1,
+    /// A name, `#` and a number, as `co#80`.
     Number = 2,
+    /// A name, `=` and a text, as `cl=\E[H`.
     String = 3,
 }
 
@@ -22,7 +25,9 @@ impl Kind {
 /// One live pair of name and kind, as List gives it.
 #[derive(Clone, Copy, Debug, PartialEq, Eq, Hash)]
 pub struct Record {
+    /// The two bytes of the capability's name.
     pub name: [u8; 2],
+    /// Whether the value is a flag's, a number's or a string's.
     pub kind: Kind,
     /// The place in the chain, from 0, of the description that has the winning field.
     pub place: u8,

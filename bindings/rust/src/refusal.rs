@@ -14,7 +14,7 @@ pub enum Refusal {
     /// The database is over 1,048,576 bytes.
     DatabaseTooLarge = 3,
     /// No description has the asked name.
-    NoDescription = 4,
+    UnknownName = 4,
     /// A link's name is found nowhere.
     LostLink = 5,
     /// A description in the chain is malformed.
@@ -26,7 +26,7 @@ pub enum Refusal {
     /// The output doesn't fit the lent buffer.
     NoRoom = 9,
     /// Unknown, or cut off, percent sequence.
-    BadPercent = 10,
+    UnknownSequence = 10,
     /// Too few unused parameters.
     TooFewParameters = 11,
     /// A number out of its range.
@@ -40,13 +40,13 @@ impl Refusal {
         Refusal::BadName,
         Refusal::BadId,
         Refusal::DatabaseTooLarge,
-        Refusal::NoDescription,
+        Refusal::UnknownName,
         Refusal::LostLink,
         Refusal::Malformed,
         Refusal::Cycle,
         Refusal::ChainTooLarge,
         Refusal::NoRoom,
-        Refusal::BadPercent,
+        Refusal::UnknownSequence,
         Refusal::TooFewParameters,
         Refusal::OutOfRange,
         Refusal::BadPadding,
@@ -61,19 +61,25 @@ impl Refusal {
 impl fmt::Display for Refusal {
     fn fmt(&self, f: &mut fmt::Formatter<'_>) -> fmt::Result {
         f.write_str(match self {
-            Refusal::BadName => "the asked name is no name",
-            Refusal::BadId => "the id is no id",
-            Refusal::DatabaseTooLarge => "the database is over 1,048,576 bytes",
-            Refusal::NoDescription => "no description has the asked name",
-            Refusal::LostLink => "a link's name is found nowhere",
-            Refusal::Malformed => "a description in the chain is malformed",
-            Refusal::Cycle => "a link leads to a line already in the chain",
-            Refusal::ChainTooLarge => "the chain is over 32 descriptions or over 16,384 in size",
-            Refusal::NoRoom => "the output doesn't fit the lent buffer",
-            Refusal::BadPercent => "unknown, or cut off, percent sequence",
-            Refusal::TooFewParameters => "too few unused parameters",
+            Refusal::BadName => {
+                "the terminal's name is not 1 to 64 printable bytes without `|`, `:` and `\\`"
+            }
+            Refusal::BadId => {
+                "the capability's id is not two printable bytes without `:` and `\\`, begins with a point, or is `tc`"
+            }
+            Refusal::DatabaseTooLarge => "the database has more than 1,048,576 bytes",
+            Refusal::UnknownName => "no terminal in the database has this name",
+            Refusal::LostLink => "a description links to a terminal that is not in the database",
+            Refusal::Malformed => "a description of the terminal is malformed",
+            Refusal::Cycle => "a description links back to one that was read before",
+            Refusal::ChainTooLarge => {
+                "the terminal has more than 32 descriptions, or over 16,384 bytes of them"
+            }
+            Refusal::NoRoom => "the output does not fit the buffer",
+            Refusal::UnknownSequence => "the command has an unknown or unfinished percent sequence",
+            Refusal::TooFewParameters => "the command uses more parameters than there are",
             Refusal::OutOfRange => "a number is out of its range",
-            Refusal::BadPadding => "too many digits in the padding",
+            Refusal::BadPadding => "the command's padding has too many digits",
         })
     }
 }

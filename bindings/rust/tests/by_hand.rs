@@ -85,7 +85,7 @@ fn an_empty_name_id_database_or_command_is_fine_to_pass() {
     let empty = Database::new(b"");
     assert_eq!(empty.show(""), Err(Refusal::BadName));
     assert_eq!(empty.flag("n", ""), Err(Refusal::BadId));
-    assert_eq!(empty.flat_into("n", &mut []), Err(Refusal::NoDescription));
+    assert_eq!(empty.flat_into("n", &mut []), Err(Refusal::UnknownName));
     assert_eq!(send("", &SLOW), Ok(vec![]));
     assert_eq!(send_at_into("", &Position::default(), &SLOW, &mut []), Ok(0));
     assert_eq!(Database::new(b"n:le=:").string("n", "le"), Ok(Some(vec![])));
@@ -97,7 +97,7 @@ fn each_refusal_of_a_question() {
     assert_eq!(Database::new(b"n:").flag("a:b", "am"), Err(Refusal::BadName));
     assert_eq!(Database::new(b"n:").flag("n", "tc"), Err(Refusal::BadId));
     assert_eq!(refusal(&vec![b'\n'; 1_048_577]), Refusal::DatabaseTooLarge);
-    assert_eq!(refusal(&vec![b'\n'; 1_048_576]), Refusal::NoDescription);
+    assert_eq!(refusal(&vec![b'\n'; 1_048_576]), Refusal::UnknownName);
     assert_eq!(refusal(b"n:tc=m:"), Refusal::LostLink);
     assert_eq!(refusal(b"n:co#:"), Refusal::Malformed);
     assert_eq!(refusal(b"n:co#80:tc=m:\nm:tc=n:"), Refusal::Cycle);
@@ -115,7 +115,7 @@ fn each_refusal_of_a_question() {
 fn each_refusal_of_send() {
     let position = Position { row: 27, column: 9, ..Position::default() };
     let refusal = |command: &str| send_at(command, &position, &SLOW).unwrap_err();
-    assert_eq!(refusal("%x"), Refusal::BadPercent);
+    assert_eq!(refusal("%x"), Refusal::UnknownSequence);
     assert_eq!(refusal("%d%d%d"), Refusal::TooFewParameters);
     assert_eq!(refusal("%d%D%d"), Refusal::OutOfRange);
     assert_eq!(refusal("12345A"), Refusal::BadPadding);
@@ -163,7 +163,7 @@ fn nothing_is_written_on_other_refusals_and_when_absent() {
     assert_eq!(Database::new(CASE).string_into("aaa", "le", &mut []), Ok(None));
     assert_eq!(send_into("00001A", &SLOW, &mut out), Err(Refusal::BadPadding));
     let cut_off = send_at_into("ABC%", &Position::default(), &SLOW, &mut out);
-    assert_eq!(cut_off, Err(Refusal::BadPercent));
+    assert_eq!(cut_off, Err(Refusal::UnknownSequence));
     assert_eq!(out, [MARK; 64]);
 }
 
@@ -271,11 +271,45 @@ fn the_sample_databases() {
 }
 
 #[test]
+fn padding_of_motions_is_taken_off_first() {
+    let sample = Database::new(include_bytes!("../../../data/sample.tc"));
+    let string = |id| sample.string("feeder", id).unwrap().unwrap();
+    let (back, up) = (string("le"), string("up"));
+    assert_eq!(back, b"2\x08");
+    assert_eq!(up, b"3.5\x1B[A");
+
+    let still = Line { speed: 0, ..Line::default() };
+    let (bare_back, bare_up) = (send(&back, &still).unwrap(), send(&up, &still).unwrap());
+    assert_eq!(bare_back, b"\x08");
+    assert_eq!(bare_up, b"\x1B[A");
+
+    // Row 10 and column 9 are each raised by one: the cursor goes up, then back. The 4 milliseconds
+    // are 3.84 bytes at 9,600 bits a second.
+    let at = |back, up| {
+        let position = Position { row: 10, column: 9, back, up };
+        send_at(string("cm"), &position, &Line::default()).unwrap()
+    };
+    assert_eq!(at(&bare_back, &bare_up), b"\x14\x0B\x0A\x1B[A\x08\0\0\0\0");
+    // As they stand, the digits are sent, too.
+    assert_eq!(at(&back, &up), b"\x14\x0B\x0A3.5\x1B[A2\x08\0\0\0\0");
+}
+
+#[test]
+fn a_refusal_is_told_in_a_sentence_of_its_own() {
+    let texts = (1..=13).map(|number| Refusal::try_from(number).unwrap().to_string());
+    let mut texts: Vec<String> = texts.collect();
+    assert_eq!(texts[3], "no terminal in the database has this name");
+    assert_eq!(texts[8], "the output does not fit the buffer");
+    texts.sort();
+    texts.dedup();
+    assert_eq!(texts.len(), 13);
+}
+
+#[test]
 fn refusals_and_kinds_have_their_numbers() {
     for number in 1..=13 {
         let refusal = Refusal::try_from(number).unwrap();
         assert_eq!(refusal.number(), number);
-        assert!(!refusal.to_string().is_empty());
     }
     for number in [0, 14, 255, u32::MAX] {
         assert_eq!(Refusal::try_from(number), Err(NotARefusal(number)));
