@@ -1,1 +1,2 @@
+pub mod OctalDigits
 pub mod TextSteps

@@ -2,10 +2,17 @@
 use field_bounds::field_byte;
 use lines::Step;
 use stores::put_after;
-ghost use Prim.Native.Nat.{_<_};
+ghost use Prim.Native.Nat.{_-_};
 ghost use mathlib.Core.Path.{_≡_};
-ghost use Rattle.spec.specs.Strings.{escaped, plain, slash, caret, oneDigit, twoDigits};
+ghost use mathlib.Core.Bool.{true};
+ghost use Rattle.spec.specs.Digits.{isDigit};
+ghost use Rattle.spec.specs.Strings.{escaped, plain, slash, caret, oneDigit};
 ghost use Rattle.escapes.specs.Steps.{TextBegins, Decodes, Measures};
+
+// The digits of an octal escape, and the greatest value of them.
+const OCTAL_DIGITS: usize = 3;
+
+const OCTAL_LIMIT: u16 = 255;
 
 // The count of the bytes that a string's text stands for, or a fault in it.
 pub enum Decoding {
@@ -28,37 +35,31 @@ enum TextStep {
     Bad,
 }
 
-// The third octal digit of an escape, after two with the value v: "up to 377".
-fn third_digit(s: &[u8], at: usize, v: u8) -> TextStep
-    requires { ⌜ v < 64 ⌝ }
-    ensures { λ r. ⌜ TextBegins (twoDigits v) (now (s .entry)) at r ⌝ }
+// An octal escape after its first digit: "exactly three octal digits up to 377".
+fn octal_escape(s: &[u8], at: usize, first: u8) -> TextStep
+    requires { ⌜ isDigit 8 first ≡ true ⌝ }
+    ensures { λ r. ⌜ TextBegins (oneDigit (first - 48)) (now (s .entry)) at r ⌝ }
 {
-    match field_byte(s, at) {
-        Step::Byte(b, n) => match b {
-            b'0'..=b'7' => {
-                if v < 32 {
-                    return TextStep::Byte(v * 8 + (b - b'0'), n, 4);
+    let mut i = at;
+    let mut k: usize = 1;
+    let mut v: u16 = (first - b'0') as u16;
+    while k < OCTAL_DIGITS {
+        match field_byte(s, i) {
+            Step::Byte(b, n) => match b {
+                b'0'..=b'7' => {
+                    v = v * 8 + (b - b'0') as u16;
+                    k += 1;
+                    i = n;
                 }
-                TextStep::Bad
-            }
-            _ => TextStep::Bad,
-        },
-        Step::End => TextStep::Bad,
+                _ => return TextStep::Bad,
+            },
+            Step::End => return TextStep::Bad,
+        }
     }
-}
-
-// The second octal digit of an escape, after one with the value v, and what follows it.
-fn second_digit(s: &[u8], at: usize, v: u8) -> TextStep
-    requires { ⌜ v < 8 ⌝ }
-    ensures { λ r. ⌜ TextBegins (oneDigit v) (now (s .entry)) at r ⌝ }
-{
-    match field_byte(s, at) {
-        Step::Byte(b, n) => match b {
-            b'0'..=b'7' => third_digit(s, n, v * 8 + (b - b'0')),
-            _ => TextStep::Bad,
-        },
-        Step::End => TextStep::Bad,
+    if v > OCTAL_LIMIT {
+        return TextStep::Bad;
     }
+    TextStep::Byte(v as u8, i, k + 1)
 }
 
 // The byte for a letter after a backslash, or 256 if there is no such escape.
@@ -84,7 +85,7 @@ fn after_backslash(s: &[u8], at: usize) -> TextStep
 {
     match field_byte(s, at) {
         Step::Byte(b, n) => match b {
-            b'0'..=b'7' => second_digit(s, n, b - b'0'),
+            b'0'..=b'7' => octal_escape(s, n, b),
             _ => {
                 let v = escape_of(b);
                 if v > 255 {

@@ -4,36 +4,42 @@ use Prim.Native.Nat.{ℕ, _+_, _-_, _*_, _^_, _≤_, _<_}
 use mathlib.Core.Path.{_≡_, refl, _∙_, ap}
 use mathlib.Core.Bool.{true, false}
 use mathlib.Core.List.{List, [], _∷_}
-use native.Mathlib.Nat.{pow-suc, pow-le-pow-right}
-use native.Mathlib.Numerals.{add-one}
+use native.Mathlib.Nat.{pow-le-pow-left}
 use native.Mathlib.Omega.{arith}
 use borrow.Author.Tests.{le-leb, lt-leb}
 use lib.Dec.{leb}
 use lib.ListN.{length}
 use Rattle.spec.specs.Choice.{between}
-use Rattle.spec.specs.Digits.{areDigits, valueFrom}
+use Rattle.spec.specs.Digits.{isDigit, areDigits, valueFrom}
 use Rattle.spec.specs.Fields.{numberBase, numberValue, goodNumber}
-use Rattle.spec.proofs.DigitBytes.{digit-is, digit-not}
+use Rattle.spec.proofs.DigitReading.{ReadSoFar, read-none, read-more, read-below, read-digits, read-value}
 use Rattle.spec.proofs.Tests.{both-false}
 use Rattle.field_bounds.specs.Answers.{fieldAt, Passed}
 use Rattle.field_bounds.proofs.FieldBytes.{passed-none, passed-over}
 
--- "read as decimal"
+-- "Read as decimal": the one place where the base of a number is told.
 decimal : (l : List ℕ) → numberBase l ≡ 10
 unfolding numberBase
 decimal l = refl
 
--- The digits of the field at `at` up to the place `i` are `k`, with the value `v`.
-pub record Counted (s : List ℕ) (at i k v : ℕ) : Type 0 where
+-- The digits of the field at `at` up to the place `i` are `k`, with the value `v`, in the base that the definition gives the field.
+pub record Counted (base : ℕ) (s : List ℕ) (at i k v : ℕ) : Type 0 where
   pub few : k ≤ 6
-  pub small : v < 10 ^ k
+  pub in-base : numberBase (fieldAt s at) ≡ base
+  pub some : 0 < base
+  pub ten : base ≤ 10
   pub passed : Passed s at i k
-  pub digits : areDigits (numberBase (fieldAt s at)) (fieldAt s at) ≡ areDigits (numberBase (fieldAt s at)) (fieldAt s i)
-  pub worth : numberValue (fieldAt s at) ≡ valueFrom (numberBase (fieldAt s at)) v (fieldAt s i)
+  pub read : ReadSoFar base (fieldAt s at) (fieldAt s i) k v
 
-pub counted-none : (s : List ℕ) (at : ℕ) → Counted s at at 0 0
-unfolding numberValue
-counted-none s at = record { few = omega arith; small = omega arith; passed = passed-none s at; digits = refl; worth = refl }
+pub counted-none : (s : List ℕ) (at : ℕ) → Counted 10 s at at 0 0
+counted-none s at = record {
+  few = omega arith;
+  in-base = decimal (fieldAt s at);
+  some = omega arith;
+  ten = omega arith;
+  passed = passed-none s at;
+  read = read-none 10 (fieldAt s at);
+}
 
 -- ---- what is no number
 
@@ -52,38 +58,36 @@ bad-value l h = rw (lt-leb (numberValue l) 65535 h, both-false (areDigits (numbe
 long : (l : List ℕ) → 6 < length l → between 1 6 (length l) ≡ false
 long l h = rw (lt-leb (length l) 6 h, both-false (leb 1 (length l)))
 
-module _ (s : List ℕ) (at i k v : ℕ) (q : Counted s at i k v) where
+module _ (base : ℕ) (s : List ℕ) (at i k v : ℕ) (q : Counted base s at i k v) where
   -- a sixth digit still fits
   pub counted-room : k < 6 → v < 100000
   counted-room h =
-      let low : k ≤ 5 = omega arith in
-      let top : 10 ^ k ≤ 10 ^ 5 = pow-le-pow-right (omega arith) low in
-      omega (arith, q .small)
+      let below : v < base ^ 5 = read-below base _ _ k v (q .read) 5 (omega arith) (q .some) in
+      let top : base ^ 5 ≤ 10 ^ 5 = pow-le-pow-left (q .ten) 5 in
+      omega arith
 
   module _ (b n : ℕ) (e : fieldAt s i ≡ b ∷ fieldAt s n) where
     pub counted-long : 6 ≤ k → goodNumber (fieldAt s at) ≡ false
     counted-long h = bad-length (fieldAt s at) (long (fieldAt s at) (omega (arith, q .passed .count, ap length e)))
 
-    pub counted-not : ((48 ≤ b) × (b ≤ 57) → ⊥) → goodNumber (fieldAt s at) ≡ false
+    pub counted-not : isDigit base b ≡ false → goodNumber (fieldAt s at) ≡ false
     unfolding areDigits
-    counted-not h = bad-digit (fieldAt s at) (q .digits ∙ rw (e, decimal (fieldAt s at), digit-not 10 b (λ w. h (w .0, omega (arith, w .1)))))
+    counted-not d = bad-digit (fieldAt s at) (rw (q .in-base) (read-digits base _ _ k v (q .read) ∙ rw (e, d)))
 
-    pub counted-on : Passed s i n 1 → 48 ≤ b → b ≤ 57 → k < 6 → Counted s at n (k + 1) (v * 10 + (b - 48))
-    unfolding areDigits valueFrom
-    counted-on p low high h =
-        let more : 10 ^ (k + 1) ≡ 10 ^ k * 10 = rw add-one (pow-suc 10 k) in
-        record {
-          few = omega arith;
-          small = omega (arith, q .small);
-          passed = passed-over s at i n k 1 (q .passed) p;
-          digits = q .digits ∙ rw (e, decimal (fieldAt s at), digit-is 10 b low (omega arith));
-          worth = q .worth ∙ rw (e, decimal (fieldAt s at));
-        }
+    pub counted-on : Passed s i n 1 → isDigit base b ≡ true → k < 6 → Counted base s at n (k + 1) (v * base + (b - 48))
+    counted-on p d h = record {
+      few = omega arith;
+      in-base = q .in-base;
+      some = q .some;
+      ten = q .ten;
+      passed = passed-over s at i n k 1 (q .passed) p;
+      read = read-more base _ _ k v (q .read) b (fieldAt s n) e d;
+    }
 
   module _ (e : fieldAt s i ≡ []) where
     counted-value : numberValue (fieldAt s at) ≡ v
-    unfolding valueFrom
-    counted-value = q .worth ∙ rw e
+    unfolding numberValue valueFrom
+    counted-value = rw (q .in-base) (read-value base _ _ k v (q .read) ∙ rw e)
 
     pub counted-empty : k ≡ 0 → goodNumber (fieldAt s at) ≡ false
     counted-empty h =
@@ -96,6 +100,6 @@ module _ (s : List ℕ) (at i k v : ℕ) (q : Counted s at i k v) where
     pub counted-good : (k ≡ 0 → ⊥) → v ≤ 65535 → (goodNumber (fieldAt s at) ≡ true) × (numberValue (fieldAt s at) ≡ v)
     unfolding goodNumber areDigits
     counted-good h m =
-        let all : areDigits (numberBase (fieldAt s at)) (fieldAt s at) ≡ true = q .digits ∙ rw e in
+        let all : areDigits (numberBase (fieldAt s at)) (fieldAt s at) ≡ true = rw (q .in-base) (read-digits base _ _ k v (q .read) ∙ rw e) in
         let length-is : length (fieldAt s at) ≡ k = omega (arith, q .passed .count, ap length e) in
         (rw (all, counted-value, length-is, le-leb v 65535 m, le-leb k 6 (q .few), le-leb 1 k (omega arith)), counted-value)

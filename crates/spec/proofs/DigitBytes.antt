@@ -6,6 +6,7 @@ use borrow.Author.Tests.{le-leb, lt-ltb, leb-true, ltb-true}
 use lib.Dec.{leb, ltb}
 use Rattle.spec.specs.Choice.{both}
 use Rattle.spec.specs.Digits.{isDigit}
+use Rattle.spec.proofs.Tests.{both-true}
 
 module _ (base b : ℕ) where
   pub digit-is : 48 ≤ b → b < 48 + base → isDigit base b ≡ true
@@ -18,3 +19,9 @@ module _ (base b : ℕ) where
       go true e true f = absurd (n (leb-true 48 b e, ltb-true b (48 + base) f))
       go true e false f = refl
       go false e y f = refl
+
+  pub digit-low : isDigit base b ≡ true → 48 ≤ b
+  digit-low e = leb-true 48 b (both-true (leb 48 b) (ltb b (48 + base)) e .0)
+
+  pub digit-high : isDigit base b ≡ true → b < 48 + base
+  digit-high e = ltb-true b (48 + base) (both-true (leb 48 b) (ltb b (48 + base)) e .1)

@@ -6,12 +6,13 @@ use Prim.Native.Nat.{ℕ, zero, suc, _+_, _-_, _*_, _/_, _%_, _^_, _≤_, _<_}
 use native.Mathlib.Nat.{pow-zero, pow-suc, add-mul, mul-assoc, mul-comm, mod-lt, div-add-mod', pow-le-pow-right, le-div-iff-mul-le, mul-le-mul-left, one-mul, zero-mul, add-zero, div-one, mod-eq-of-lt, div-div-eq-div-mul}
 use native.Mathlib.Decide.{decLt}
 use native.Mathlib.Omega.{arith}
-use borrow.Author.Tests.{ltb-true, ltb-false, leb-true}
-use lib.Dec.{leb, ltb}
+use borrow.Author.Tests.{ltb-true, ltb-false}
+use lib.Dec.{ltb}
 use lib.Arith.{mod-mul, digits-lt, digits-div, digits-mod}
 use lib.ListN.{length, getD}
 use Rattle.spec.specs.Choice.{pick}
 use Rattle.spec.proofs.Tests.{both-true}
+use Rattle.spec.proofs.DigitBytes.{digit-low, digit-high}
 use Rattle.spec.specs.Digits.{isDigit, areDigits, valueFrom, value, spell, places, written, Fewest}
 
 -- a power of a base above 0 is above 0
@@ -87,18 +88,25 @@ unfolding areDigits valueFrom
 value-below base [] e = rw pow-zero (omega arith)
 value-below base (c ∷ s) e =
     let one = both-true (isDigit base c) (areDigits base s) e .0 in
-    let low = leb-true 48 c (both-true (leb 48 c) (ltb c (48 + base)) one .0) in
-    let high = ltb-true c (48 + base) (both-true (leb 48 c) (ltb c (48 + base)) one .1) in
+    let low = digit-low base c one in
+    let high = digit-high base c one in
     let ih = value-below base s (both-true (isDigit base c) (areDigits base s) e .1) in
     let digit : c - 48 < base = omega arith in
     rw (value-first base c s, pow-suc, mul-comm (base ^ length s) base) (digits-lt digit ih)
+
+-- and what is below a power is below a higher one, so no more than k digits are below base ^ k too
+pub below-more : (base j k n : ℕ) → 0 < base → j ≤ k → n < base ^ j → n < base ^ k
+below-more base j k n b h l = let up : base ^ j ≤ base ^ k = pow-le-pow-right b h in omega arith
+
+pub value-few : (base k : ℕ) (s : List ℕ) → 0 < base → areDigits base s ≡ true → length s ≤ k → value base s < base ^ k
+value-few base k s b e h = below-more base (length s) k (value base s) b h (value-below base s e)
 
 pub spell-value : (base : ℕ) (s : List ℕ) → areDigits base s ≡ true → spell base (length s) (value base s) ≡ s
 unfolding areDigits spell
 spell-value base [] e = refl
 spell-value base (c ∷ s) e =
     let one = both-true (isDigit base c) (areDigits base s) e .0 in
-    let low = leb-true 48 c (both-true (leb 48 c) (ltb c (48 + base)) one .0) in
+    let low = digit-low base c one in
     let rest = both-true (isDigit base c) (areDigits base s) e .1 in
     let below = value-below base s rest in
     let back : 48 + (c - 48) ≡ c = omega arith in

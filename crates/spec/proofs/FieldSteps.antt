@@ -1,6 +1,6 @@
 -- Names, fields and string texts as a reader meets them, byte by byte.
 -- Assumes nothing.
-use Prim.Native.Nat.{ℕ, suc, _+_, _-_, _*_, _%_, _≤_, _<_}
+use Prim.Native.Nat.{ℕ, suc, _+_, _-_, _%_, _≤_, _<_}
 use mathlib.Core.Path.{_≡_, refl, ap}
 use mathlib.Core.Bool.{Bool, true, false}
 use mathlib.Core.List.{List, [], _∷_, _++_}
@@ -12,12 +12,11 @@ use lib.ListN.{length, length-append}
 use Rattle.spec.specs.Choice.{pick, both, between}
 use Rattle.spec.specs.Lines.{Text, end, byte, lineText}
 use Rattle.spec.specs.Lists.{upto, holds, past}
-use Rattle.spec.proofs.DigitBytes.{digit-is, digit-not}
+use Rattle.spec.proofs.DigitBytes.{digit-not}
 use Rattle.spec.proofs.TextSteps.{line-end, line-on}
-use Rattle.spec.specs.Strings.{Decoded, bad, good, emit, plain, slash, caret, oneDigit, twoDigits, octal, escaped, control, decode}
+use Rattle.spec.specs.Strings.{Decoded, bad, good, emit, plain, slash, caret, oneDigit, octal, escaped, control, decode}
 use Rattle.spec.specs.Fields.{namesOf, grow, split, fieldsOf, size, lineSize}
 use Rattle.spec.proofs.FieldTexts.{line-parts}
-use Rattle.spec.proofs.Tests.{both-false}
 
 -- ---- the text up to the next colon (58), and what follows it, of a line at a place
 
@@ -72,9 +71,6 @@ outside low high b n = go (leb low b) refl (leb b high) refl
     go true e true f = absurd (n (leb-true low b e, leb-true b high f))
     go true e false f = refl
     go false e y f = refl
-
-is-octal : (b : ℕ) → (48 ≤ b) × (b ≤ 55) → octal b ≡ true
-is-octal b i = digit-is 8 b (i .0) (omega (arith, i .1))
 
 not-octal : (b : ℕ) → ((48 ≤ b) × (b ≤ 55) → ⊥) → octal b ≡ false
 not-octal b n = digit-not 8 b (λ w. n (w .0, omega (arith, w .1)))
@@ -132,29 +128,9 @@ module _ (b : ℕ) (l : List ℕ) where
   unfolding decode
   decode-no-letter h k = rw (not-octal b h, lt-leb (escaped b) 255 k)
 
-  pub decode-first : (48 ≤ b) × (b ≤ 55) → decode slash (b ∷ l) ≡ decode (oneDigit (b - 48)) l
+  pub decode-first : octal b ≡ true → decode slash (b ∷ l) ≡ decode (oneDigit (b - 48)) l
   unfolding decode
-  decode-first i = rw (is-octal b i)
-
-  pub decode-second : (v : ℕ) → (48 ≤ b) × (b ≤ 55) → decode (oneDigit v) (b ∷ l) ≡ decode (twoDigits (v * 8 + (b - 48))) l
-  unfolding decode
-  decode-second v i = rw (is-octal b i)
-
-  pub decode-third : (v : ℕ) → (48 ≤ b) × (b ≤ 55) → v * 8 + (b - 48) ≤ 255 → decode (twoDigits v) (b ∷ l) ≡ emit (v * 8 + (b - 48)) (decode plain l)
-  unfolding decode
-  decode-third v i k = rw (is-octal b i, le-leb (v * 8 + (b - 48)) 255 k)
-
-  pub decode-over : (v : ℕ) → 255 < v * 8 + (b - 48) → decode (twoDigits v) (b ∷ l) ≡ bad
-  unfolding decode
-  decode-over v k = rw (lt-leb (v * 8 + (b - 48)) 255 k, both-false (octal b))
-
-  pub decode-no-second : (v : ℕ) → ((48 ≤ b) × (b ≤ 55) → ⊥) → decode (oneDigit v) (b ∷ l) ≡ bad
-  unfolding decode
-  decode-no-second v h = rw (not-octal b h)
-
-  pub decode-no-third : (v : ℕ) → ((48 ≤ b) × (b ≤ 55) → ⊥) → decode (twoDigits v) (b ∷ l) ≡ bad
-  unfolding decode
-  decode-no-third v h = rw (not-octal b h)
+  decode-first e = rw e
 
 pub escaped-not : (b : ℕ) → (b ≡ 69 → ⊥) → (b ≡ 110 → ⊥) → (b ≡ 114 → ⊥) → (b ≡ 116 → ⊥) → (b ≡ 98 → ⊥) → (b ≡ 102 → ⊥) → (b ≡ 94 → ⊥) → (b ≡ 92 → ⊥) → escaped b ≡ 256
 unfolding escaped
@@ -169,7 +145,7 @@ pub control-mod : (b : ℕ) → 63 < b → control b ≡ b % 32
 unfolding control
 control-mod b h = rw (ne-eqb b 63 (omega arith))
 
--- ---- a line's size by its length: oneDigit more if its last field is open
+-- ---- a line's size by its length: one more if its last field is open
 
 unfoldable pub open-end : List ℕ → ℕ
 open-end [] = 0
@@ -195,7 +171,7 @@ split-size (b ∷ c ∷ l) = go (eqb b 58) (split-size (c ∷ l))
     go true h = omega arith
     go false h = rw (split-first c l) (omega (arith, grow-size b (upto 58 (c ∷ l)) (split (past 58 (c ∷ l))), ap size (split-first c l)))
 
--- For a line with a colon: its joined length, and oneDigit more if it does not end in a colon.
+-- For a line with a colon: its joined length, and one more if it does not end in a colon.
 pub line-size : (l : List ℕ) → holds 58 l ≡ true → lineSize l ≡ length l + open-end (past 58 l)
 unfolding lineSize fieldsOf
 line-size l h = omega (arith, split-size (past 58 l), ap length (line-parts l h), length-append (namesOf l) (58 ∷ past 58 l))

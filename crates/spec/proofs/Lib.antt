@@ -4,6 +4,8 @@ pub mod Tests
 pub mod DigitBytes
 pub mod DigitLaws
 pub mod LeadingDigits
+pub mod DigitReading
+pub mod OctalEscapes
 pub mod TextSteps
 pub mod WholeLines
 pub mod Extents

@@ -3,7 +3,7 @@ use mathlib.Core.Path.{_≡_, refl, ap, _∙_}
 use mathlib.Core.Bool.{Bool, true, false}
 use mathlib.Core.List.{List, [], _∷_}
 use Prim.Native.Nat.{ℕ, suc, _+_, _-_, _*_, _^_, _≤_, _<_}
-use native.Mathlib.Nat.{mul-pos, zero-mul, mul-zero, pow-le-pow-right}
+use native.Mathlib.Nat.{mul-pos, zero-mul, mul-zero}
 use native.Mathlib.Omega.{arith}
 use borrow.Author.Tests.{ltb-false}
 use lib.Dec.{eqb, ltb}
@@ -13,7 +13,7 @@ use Rattle.spec.specs.Choice.{pick, isEmpty}
 use Rattle.spec.specs.Padding.{Split, Prefix, split, refused, tenths, pastTenths, pastStar, prefixOf, padCount}
 use Rattle.spec.specs.Digits.{value, valueFrom, leading, trailing}
 use Rattle.spec.proofs.Tests.{pick-told}
-use Rattle.spec.proofs.DigitLaws.{value-below}
+use Rattle.spec.proofs.DigitLaws.{value-few}
 use Rattle.spec.proofs.LeadingDigits.{leading-digits, trailing-drop}
 
 -- ---- the count of pads
@@ -43,10 +43,7 @@ Splits P (refused n) = Unit
 
 -- at most k decimal digits are below 10 ^ k
 few-digits : (k : ℕ) (s : List ℕ) → length (leading 10 s) ≤ k → value 10 (leading 10 s) < 10 ^ k
-few-digits k s h =
-    let below = value-below 10 (leading 10 s) (leading-digits 10 s) in
-    let up : 10 ^ length (leading 10 s) ≤ 10 ^ k = pow-le-pow-right (omega arith) h in
-    omega arith
+few-digits k s h = value-few 10 k (leading 10 s) (omega arith) (leading-digits 10 s) h
 
 tenth-below : (s : List ℕ) → length (tenths s) ≤ 1 → value 10 (tenths s) < 10
 unfolding tenths valueFrom

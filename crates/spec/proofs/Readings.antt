@@ -13,7 +13,7 @@ use Rattle.spec.specs.Choice.{pick, both, either, between}
 use Rattle.spec.specs.Lines.{blank}
 use Rattle.spec.proofs.Tests.{both-true}
 use Rattle.spec.specs.Refusals.{isTc, idBytes, goodName}
-use Rattle.spec.specs.Digits.{areDigits, value, valueFrom}
+use Rattle.spec.specs.Digits.{areDigits}
 use Rattle.spec.specs.Fields.{numberBase, numberValue, goodNumber, Content, cancel, flag, number, string, Reading, malformed, ignored, link, capability, stringReading, contentReading, linkReading, namedReading, reading, contentValue}
 use Rattle.spec.specs.Strings.{Decoded, bad, good, emit, Mode, plain, slash, caret, oneDigit, twoDigits, octal, escaped, control, decode}
 
@@ -137,15 +137,3 @@ reading-entered (x ∷ l) a b s e = go (either (blank (x ∷ l)) (eqb x 46)) e
     go : (y : Bool) → pick y ignored (namedReading x l) ≡ capability a b s → Entered (x ∷ l) a b s
     go true q = let z : _≡_ {A = ℕ} 0 1 = cc in absurd (omega arith)
     go false q = named-entered x l a b s q
-
--- ---- an octal escape stands for the value of its three digits, by the law that decimal digits are read by too (DigitLaws)
-
-pub octal-escape : (a b c : ℕ) (l : List ℕ) → areDigits 8 (a ∷ b ∷ c ∷ []) ≡ true
-    → decode slash (a ∷ b ∷ c ∷ l) ≡ pick (leb (value 8 (a ∷ b ∷ c ∷ [])) 255) (emit (value 8 (a ∷ b ∷ c ∷ [])) (decode plain l)) bad
-unfolding decode areDigits valueFrom
-octal-escape a b c l e =
-    let x = both-true (octal a) (areDigits 8 (b ∷ c ∷ [])) e in
-    let y = both-true (octal b) (areDigits 8 (c ∷ [])) (x .1) in
-    let z = both-true (octal c) (areDigits 8 []) (y .1) in
-    let first : 0 * 8 + (a - 48) ≡ a - 48 = omega arith in
-    rw (x .0, y .0, z .0, first)

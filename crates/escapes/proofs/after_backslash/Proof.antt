@@ -4,6 +4,7 @@ use native.Mathlib.Omega.{arith}
 use Prim.Native.Nat.{_≤_}
 use mathlib.Core.Path.{refl, sym}
 use mathlib.Core.Logic.{⊎-elim}
+use Rattle.spec.proofs.DigitBytes.{digit-is}
 use Rattle.spec.proofs.FieldSteps as Steps
 use Rattle.spec.specs.Strings.{decode}
 use Rattle.field_bounds.proofs.FieldBytes.{passed-over}
@@ -18,8 +19,8 @@ field-byte-requires c κs = search needs
 enum-known-b : tie.Need-enum-known-b
 enum-known-b c = search needs
 
-second-digit-requires : tie.Need-second-digit-requires
-second-digit-requires c κs = search needs
+octal-escape-requires : tie.Need-octal-escape-requires
+octal-escape-requires c κs = digit-is 8 (c .before .before .before .b .given .0 .0) (omega arith) (omega arith)
 
 escape-of-requires : tie.Need-escape-of-requires
 escape-of-requires c κs = search needs
@@ -32,8 +33,8 @@ returns c =
     let p = rw (c .before .before .before .before .b .given .1) at (c .before .before .before .before .before .before .field-byte .ensures) in
     rw (p .0) (Steps.decode-no-letter _ _ (no-digit (c .before .before)) (rw (← c .before .escape-of .ensures) (omega arith)))
 
-cast-t12 : tie.Need-cast-t12
-cast-t12 c = search needs
+cast-t11 : tie.Need-cast-t11
+cast-t11 c = search needs
 
 enum-told : tie.Need-enum-told
 enum-told c = search needs
@@ -41,7 +42,7 @@ enum-told c = search needs
 returns-2 : tie.Need-returns-2
 returns-2 c =
     let p = rw (c .before .before .before .before .b .given .1) at (c .before .before .before .before .before .before .field-byte .ensures) in
-    text-on _ _ _ _ _ (c .second-digit .result) (rw (p .0) (Steps.decode-first _ _ (omega arith, omega arith))) (p .1) (p .3) refl (c .second-digit .ensures)
+    text-on _ _ _ _ _ (c .octal-escape .result) (rw (p .0) (Steps.decode-first _ _ (digit-is 8 (c .before .before .before .before .b .given .0 .0) (omega arith) (omega arith)))) (p .1) (p .3) refl (c .octal-escape .ensures)
 
 returns-3 : tie.Need-returns-3
 returns-3 c =
@@ -61,10 +62,10 @@ after-backslash-spec =
     (tie.spec
     field-byte-requires
     enum-known-b
-    second-digit-requires
+    octal-escape-requires
     escape-of-requires
     returns
-    cast-t12
+    cast-t11
     enum-told
     returns-2
     returns-3

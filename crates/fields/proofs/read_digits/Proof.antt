@@ -3,6 +3,7 @@
 use native.Mathlib.Omega.{arith}
 use Prim.Native.Nat.{_-_}
 use lib.ListN.{length}
+use Rattle.spec.proofs.DigitBytes.{digit-is, digit-not}
 use Rattle.fields.proofs.Numbers.{Counted, counted-none, counted-room, counted-long, counted-not, counted-on}
 use Rattle.fields.proofs.Numbers.{counted-empty, counted-large, counted-good}
 use borrow.Author.Needs.{needs}
@@ -10,7 +11,7 @@ use Rattle.fields.proofs.read_digits.Statement.{statement}
 use Rattle.fields.proofs.read_digits.Tie as tie
 
 abbrev Inv-loop : tie.InvT-loop
-Inv-loop s at i₀ k₀ v₀ i k v = Counted s at i k v
+Inv-loop s at i₀ k₀ v₀ i k v = Counted 10 s at i k v
 
 abbrev μ-loop : tie.MeasureT-loop
 μ-loop s at i₀ k₀ v₀ i k v = length s - i
@@ -28,11 +29,11 @@ returns : tie.Need-returns Inv-loop μ-loop
 returns c =
     let p = rw (c .before .before .b .given .1) at (c .before .before .before .before .field-byte .ensures) in
     let inv = c .before .before .before .before .before .loop .inv in
-    (counted-long _ _ _ _ _ inv _ _ (p .0) (omega arith), inv .passed, inv .few)
+    (counted-long _ _ _ _ _ _ inv _ _ (p .0) (omega arith), inv .passed, inv .few)
 
 mul-v : tie.Need-mul-v Inv-loop μ-loop
 mul-v c =
-    let room = counted-room _ _ _ _ _ (c .before .before .before .before .before .before .before .loop .inv) (omega arith) in
+    let room = counted-room _ _ _ _ _ _ (c .before .before .before .before .before .before .before .loop .inv) (omega arith) in
     omega arith
 
 wide-requires : tie.Need-wide-requires Inv-loop μ-loop
@@ -40,7 +41,7 @@ wide-requires c κs = search needs
 
 add-v : tie.Need-add-v Inv-loop μ-loop
 add-v c =
-    let room = counted-room _ _ _ _ _ (c .before .before .before .before .before .before .before .before .loop .inv) (omega arith) in
+    let room = counted-room _ _ _ _ _ _ (c .before .before .before .before .before .before .before .before .loop .inv) (omega arith) in
     omega arith
 
 add-k : tie.Need-add-k Inv-loop μ-loop
@@ -55,19 +56,19 @@ loop-again : tie.Need-loop-again Inv-loop μ-loop
 loop-again c =
     let p = rw (c .before .before .before .before .before .b .given .1) at (c .before .before .before .before .before .before .before .field-byte .ensures) in
     let inv = c .before .before .before .before .before .before .before .before .loop .inv in
-    rw (c .wide .ensures) (counted-on _ _ _ _ _ inv _ _ (p .0) (p .3) (omega arith) (omega arith) (omega arith))
+    rw (c .wide .ensures) (counted-on _ _ _ _ _ _ inv _ _ (p .0) (p .3) (digit-is 10 (c .before .before .before .before .before .b .given .0 .0) (omega arith) (omega arith)) (omega arith))
 
 returns-2 : tie.Need-returns-2 Inv-loop μ-loop
 returns-2 c =
     let p = rw (c .before .before .before .b .given .1) at (c .before .before .before .before .before .field-byte .ensures) in
     let inv = c .before .before .before .before .before .before .loop .inv in
-    (counted-not _ _ _ _ _ inv _ _ (p .0) (λ w. omega arith), inv .passed, inv .few)
+    (counted-not _ _ _ _ _ _ inv _ _ (p .0) (digit-not 10 (c .before .before .before .b .given .0 .0) (λ w. omega arith)), inv .passed, inv .few)
 
 returns-3 : tie.Need-returns-3 Inv-loop μ-loop
 returns-3 c =
     let p = rw (c .before .before .before .before .b .given .1) at (c .before .before .before .before .before .before .field-byte .ensures) in
     let inv = c .before .before .before .before .before .before .before .loop .inv in
-    (counted-not _ _ _ _ _ inv _ _ (p .0) (λ w. omega arith), inv .passed, inv .few)
+    (counted-not _ _ _ _ _ _ inv _ _ (p .0) (digit-not 10 (c .before .before .before .before .b .given .0 .0) (λ w. omega arith)), inv .passed, inv .few)
 
 enum-told : tie.Need-enum-told Inv-loop μ-loop
 enum-told c = search needs
@@ -76,18 +77,18 @@ returns-4 : tie.Need-returns-4 Inv-loop μ-loop
 returns-4 c =
     let p = rw (c .before .enum-told .given .1) at (c .before .before .before .field-byte .ensures) in
     let inv = c .before .before .before .before .loop .inv in
-    (counted-empty _ _ _ _ _ inv p (omega arith), inv .passed, inv .few)
+    (counted-empty _ _ _ _ _ _ inv p (omega arith), inv .passed, inv .few)
 
 returns-5 : tie.Need-returns-5 Inv-loop μ-loop
 returns-5 c =
     let p = rw (c .before .before .enum-told .given .1) at (c .before .before .before .before .field-byte .ensures) in
     let inv = c .before .before .before .before .before .loop .inv in
-    (counted-large _ _ _ _ _ inv p (omega arith), inv .passed, inv .few)
+    (counted-large _ _ _ _ _ _ inv p (omega arith), inv .passed, inv .few)
 
 returns-6 : tie.Need-returns-6 Inv-loop μ-loop
 returns-6 c =
     let p = rw (c .before .before .enum-told .given .1) at (c .before .before .before .before .field-byte .ensures) in
-    let q = counted-good _ _ _ _ _ (c .before .before .before .before .before .loop .inv) p (λ e. omega arith) (omega arith) in
+    let q = counted-good _ _ _ _ _ _ (c .before .before .before .before .before .loop .inv) p (λ e. omega arith) (omega arith) in
     (q .0, q .1, c .before .before .before .before .before .loop .inv .passed, c .before .before .before .before .before .loop .inv .few)
 
 pub read-digits-spec : {M : Type 1} → statement M

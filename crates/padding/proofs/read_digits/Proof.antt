@@ -8,7 +8,8 @@ use mathlib.Core.Bool.{true}
 use Prim.Native.Nat.{ℕ, _-_, _≤_, _<_}
 use lib.ListN.{length, getD}
 use Rattle.spec.specs.Digits.{isDigit}
-use Rattle.padding.proofs.DigitSteps.{DigitsSoFar, so-far-none, so-far-more, so-far-five, so-far-other, so-far-end, digit-low, digit-high, value-small}
+use Rattle.spec.proofs.DigitBytes.{digit-low, digit-high}
+use Rattle.padding.proofs.DigitSteps.{DigitsSoFar, so-far-none, so-far-more, so-far-five, so-far-other, so-far-end, so-far-small}
 use Rattle.padding.proofs.read_digits.Statement.{statement}
 use Rattle.padding.proofs.read_digits.Tie as tie
 
@@ -55,7 +56,7 @@ known : (c : tie.Else2 Inv-loop μ-loop)
 known c =
     let l = c .before .before .before .before .before .loop in
     let yes = sym (c .before .is-digit .ensures) ∙ not-false _ (c .if2 .left) in
-    record { digit = yes; low = digit-low _ yes; high = digit-high _ yes; small = value-small _ (l .value) (l .i) (l .inv .five) (l .inv .below) }
+    record { digit = yes; low = digit-low 10 _ yes; high = digit-high 10 _ yes; small = so-far-small _ _ _ _ (l .inv) }
 
 mul-value : tie.Need-mul-value Inv-loop μ-loop
 mul-value c = let k = known c in omega arith
@@ -80,7 +81,7 @@ loop-again c =
     let a = c .before .before .before .before .before .before .before .args in
     let l = c .before .before .before .before .before .loop in
     let k = known c in
-    so-far-more (a .s .now) (a .at) (l .value) (l .i) (l .inv) (omega arith) (c .before .before .before .if1 .left) (k .digit) (k .low) (k .high)
+    so-far-more (a .s .now) (a .at) (l .value) (l .i) (l .inv) (omega arith) (c .before .before .before .if1 .left) (k .digit)
 
 returns-3 : tie.Need-returns-3 Inv-loop μ-loop
 returns-3 c =
