@@ -10,7 +10,7 @@ ghost use Prim.Native.Nat.{_+_, _≤_, _<_};
 ghost use lib.ListN.{length, set};
 ghost use Rattle.spec.specs.Lines.{findLine};
 ghost use Rattle.spec.specs.Chain.{visited};
-ghost use Rattle.chain.specs.Answers.{placesOf, Walked};
+ghost use Rattle.chain.specs.Answers.{placesOf, noPlaces, Walked};
 ghost use Rattle.field_bounds.specs.Answers.{fieldAt};
 
 // A chain of more descriptions is refused with 8.
@@ -71,26 +71,17 @@ fn find_linked(db: &[u8], at: usize) -> Found
     find_line(db, &name[..n])
 }
 
-fn refused(r: Refusal, c: Chain) -> Walk
-    ensures { λ w. ⌜ w .ended ≡ Ended.Refused r ⌝ }
+// A refusal: no chain comes with it.
+pub fn no_chain(r: Refusal) -> Walk
+    ensures { λ w. ⌜ w ≡ record { ended = Ended.Refused r; chain = noPlaces } ⌝ }
 {
     Walk {
         ended: Ended::Refused(r),
-        chain: c,
-    }
-}
-
-// A refusal before any walk.
-pub fn no_chain(r: Refusal) -> Walk
-    ensures { λ w. ⌜ w .ended ≡ Ended.Refused r ⌝ }
-{
-    refused(
-        r,
-        Chain {
+        chain: Chain {
             places: [0; MOST_DESCRIPTIONS],
             count: 0,
         },
-    )
+    }
 }
 
 // At each step: the line that was found (4 for the first, else 5), then 7, then the 33rd (8), then 6, then the size (8), then the next link.
@@ -106,19 +97,19 @@ pub fn follow_links(db: &[u8], name: &[u8]) -> Walk
     let mut found = find_line(db, name);
     loop {
         let Found::At(p) = found else {
-            return refused(missing, c);
+            return no_chain(missing);
         };
         if is_visited(c, p) {
-            return refused(Refusal::Cycle, c);
+            return no_chain(Refusal::Cycle);
         }
         if c.count >= MOST_DESCRIPTIONS {
-            return refused(Refusal::ChainTooLarge, c);
+            return no_chain(Refusal::ChainTooLarge);
         }
         match judge_line(db, p) {
-            Judged::Malformed => return refused(Refusal::Malformed, c),
+            Judged::Malformed => return no_chain(Refusal::Malformed),
             Judged::Ends(size) => {
                 if size > left {
-                    return refused(Refusal::ChainTooLarge, c);
+                    return no_chain(Refusal::ChainTooLarge);
                 }
                 return Walk {
                     ended: Ended::Accepted,
@@ -127,7 +118,7 @@ pub fn follow_links(db: &[u8], name: &[u8]) -> Walk
             }
             Judged::Links(size, link) => {
                 if size > left {
-                    return refused(Refusal::ChainTooLarge, c);
+                    return no_chain(Refusal::ChainTooLarge);
                 }
                 c = with_place(c, p);
                 left -= size;

@@ -1,3 +1,4 @@
+pub mod Limits
 pub mod Demand1
 pub mod Padding
 pub mod Winning

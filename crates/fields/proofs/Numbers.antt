@@ -59,11 +59,11 @@ long : (l : List ℕ) → 6 < length l → between 1 6 (length l) ≡ false
 long l h = rw (lt-leb (length l) 6 h, both-false (leb 1 (length l)))
 
 module _ (base : ℕ) (s : List ℕ) (at i k v : ℕ) (q : Counted base s at i k v) where
-  -- a sixth digit still fits
-  pub counted-room : k < 6 → v < 100000
-  counted-room h =
-      let below : v < base ^ 5 = read-below base _ _ k v (q .read) 5 (omega arith) (q .some) in
-      let top : base ^ 5 ≤ 10 ^ 5 = pow-le-pow-left (q .ten) 5 in
+  -- at most six digits, in a base of at most ten
+  pub counted-small : v < 1000000
+  counted-small =
+      let below : v < base ^ 6 = read-below base _ _ k v (q .read) 6 (q .few) (q .some) in
+      let top : base ^ 6 ≤ 10 ^ 6 = pow-le-pow-left (q .ten) 6 in
       omega arith
 
   module _ (b n : ℕ) (e : fieldAt s i ≡ b ∷ fieldAt s n) where

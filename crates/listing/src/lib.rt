@@ -27,7 +27,8 @@ ghost use Rattle.spec.specs.Lines.{lineAt};
 ghost use Rattle.spec.specs.Fields.{split, fieldsOf};
 ghost use Rattle.spec.specs.Chain.{placed, joinedFields};
 ghost use Rattle.spec.specs.Lookup.{winning};
-ghost use Rattle.spec.specs.Listing.{fourBytes, listOutcome, flatOutcome};
+ghost use Rattle.spec.specs.Answers.{writtenReport};
+ghost use Rattle.spec.specs.Listing.{fourBytes, listOutcome, listReport, flatOutcome, flatReport};
 ghost use Rattle.field_bounds.specs.Answers.{fieldAt};
 ghost use Rattle.fields.specs.Readings.{Reads};
 ghost use Rattle.chain.specs.Answers.{placesOf};
@@ -223,7 +224,8 @@ fn write_list(db: &[u8], c: Chain, out: &mut [u8]) -> Written
 
 pub fn list(db: &[u8], name: &[u8], out: &mut [u8]) -> Written
     ensures { λ r. ⌜ (r ≡ listOutcome (now (db .entry)) (now (name .entry)) (now (out .entry)) .answer)
-        × (now (out .exit) ≡ listOutcome (now (db .entry)) (now (name .entry)) (now (out .entry)) .buffer) ⌝ }
+        × (now (out .exit) ≡ listOutcome (now (db .entry)) (now (name .entry)) (now (out .entry)) .buffer)
+        × (writtenReport r ≡ listReport (now (db .entry)) (now (name .entry)) (now (out .entry))) ⌝ }
 {
     let w = resolve(db, name);
     let ended = w.ended;
@@ -270,7 +272,8 @@ fn write_flat(db: &[u8], c: Chain, out: &mut [u8]) -> Written
 
 pub fn flat(db: &[u8], name: &[u8], out: &mut [u8]) -> Written
     ensures { λ r. ⌜ (r ≡ flatOutcome (now (db .entry)) (now (name .entry)) (now (out .entry)) .answer)
-        × (now (out .exit) ≡ flatOutcome (now (db .entry)) (now (name .entry)) (now (out .entry)) .buffer) ⌝ }
+        × (now (out .exit) ≡ flatOutcome (now (db .entry)) (now (name .entry)) (now (out .entry)) .buffer)
+        × (writtenReport r ≡ flatReport (now (db .entry)) (now (name .entry)) (now (out .entry))) ⌝ }
 {
     let w = resolve(db, name);
     let ended = w.ended;

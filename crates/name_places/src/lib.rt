@@ -239,6 +239,7 @@ fn first_hit(s: &[u8], at: usize, stop: usize, name: &[u8]) -> usize
 // The first hit of the 16 places from `at` on, or the place behind them. They are looked at where the database goes on far enough.
 pub fn hit_in_part(s: &[u8], at: usize, name: &[u8]) -> usize
     ensures { λ r. ⌜ (0 < length (now (name .entry)) → at + 50 + length (now (name .entry)) ≤ length (now (s .entry)) → (r ≤ at + 16) × Passed (now (s .entry)) (now (name .entry)) at r) ⌝ }
+    ensures { λ r. ⌜ ((0 < length (now (name .entry)) → at + 50 + length (now (name .entry)) ≤ length (now (s .entry)) → ⊥) → r ≡ at) ⌝ }
 {
     let size = name.len();
     if size == 0 {
@@ -264,6 +265,7 @@ pub fn hit_in_part(s: &[u8], at: usize, name: &[u8]) -> usize
 // for.
 pub fn hit_by_parts(s: &[u8], at: usize, name: &[u8]) -> usize
     ensures { λ r. ⌜ (at + 2 ≤ length (now (s .entry)) → Passed (now (s .entry)) (now (name .entry)) at r) ⌝ }
+    ensures { λ r. ⌜ ((0 < length (now (name .entry)) → at + 2 ≤ length (now (s .entry)) → ⊥) → r ≡ at) ⌝ }
 {
     let len = s.len();
     if name.len() == 0 {

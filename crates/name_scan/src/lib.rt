@@ -417,6 +417,7 @@ fn hit_by_stretches(
 // not cleared for each hit. If they do not have BLOCKS and PARTS numbers, the scan does without: a short database needs none.
 pub fn next_hit(s: &[u8], at: usize, name: &[u8], blocks: &mut [u16], parts: &mut [u16]) -> usize
     ensures { λ r. ⌜ (0 < length (now (name .entry)) → at + 2 ≤ length (now (s .entry)) → Passed (now (s .entry)) (now (name .entry)) at r) ⌝ }
+    ensures { λ r. ⌜ ((0 < length (now (name .entry)) → at + 2 ≤ length (now (s .entry)) → ⊥) → r ≡ at) ⌝ }
 {
     if name.len() == 0 {
         return at;

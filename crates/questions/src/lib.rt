@@ -12,7 +12,8 @@ use spec::Refusal;
 use terminal::resolve;
 ghost use mathlib.Core.Path.{_≡_};
 ghost use Prim.Native.Nat.{_≤_};
-ghost use Rattle.spec.specs.Questions.{terminalFor, answerFor, flagAnswer, numberAnswer, stringOutcome};
+ghost use Rattle.spec.specs.Answers.{answerReport};
+ghost use Rattle.spec.specs.Questions.{terminalFor, answerFor, flagAnswer, flagReport, numberAnswer, numberReport, stringOutcome, stringReport};
 ghost use Rattle.questions.specs.Answers.{AskedFor, textLength, readValue, TextOf, TextWritten};
 
 // What a question comes to: the field that answers is absent; or the part of the database where the fields of its line start, and what it
@@ -68,13 +69,15 @@ fn answer_value(db: &[u8], name: &[u8], id: &[u8], kind: Kind) -> Answer
 }
 
 pub fn flag(db: &[u8], name: &[u8], id: &[u8]) -> Answer
-    ensures { λ r. ⌜ r ≡ flagAnswer (now (db .entry)) (now (name .entry)) (now (id .entry)) ⌝ }
+    ensures { λ r. ⌜ (r ≡ flagAnswer (now (db .entry)) (now (name .entry)) (now (id .entry)))
+        × (answerReport r ≡ flagReport (now (db .entry)) (now (name .entry)) (now (id .entry))) ⌝ }
 {
     answer_value(db, name, id, Kind::Flag)
 }
 
 pub fn number(db: &[u8], name: &[u8], id: &[u8]) -> Answer
-    ensures { λ r. ⌜ r ≡ numberAnswer (now (db .entry)) (now (name .entry)) (now (id .entry)) ⌝ }
+    ensures { λ r. ⌜ (r ≡ numberAnswer (now (db .entry)) (now (name .entry)) (now (id .entry)))
+        × (answerReport r ≡ numberReport (now (db .entry)) (now (name .entry)) (now (id .entry))) ⌝ }
 {
     answer_value(db, name, id, Kind::Number)
 }
@@ -95,7 +98,8 @@ fn write_text(s: &[u8], text: usize, n: usize, out: &mut [u8]) -> Answer
 // The text is measured before it is written. No field that is no string answers; it would have no bytes.
 pub fn string(db: &[u8], name: &[u8], id: &[u8], out: &mut [u8]) -> Answer
     ensures { λ r. ⌜ (r ≡ stringOutcome (now (db .entry)) (now (name .entry)) (now (id .entry)) (now (out .entry)) .answer)
-        × (now (out .exit) ≡ stringOutcome (now (db .entry)) (now (name .entry)) (now (id .entry)) (now (out .entry)) .buffer) ⌝ }
+        × (now (out .exit) ≡ stringOutcome (now (db .entry)) (now (name .entry)) (now (id .entry)) (now (out .entry)) .buffer)
+        × (answerReport r ≡ stringReport (now (db .entry)) (now (name .entry)) (now (id .entry)) (now (out .entry))) ⌝ }
 {
     match ask(db, name, id, Kind::String) {
         Asked::Refused(r) => Answer::Refused(r),

@@ -2,9 +2,8 @@
 // itself refuses nothing." Show, Flag and Number are each one call of `show` or `questions`.
 use spec::Answer;
 ghost use mathlib.Core.Path.{_≡_};
-ghost use Rattle.spec.specs.Answers.{shownOnPaper};
-ghost use Rattle.spec.specs.Questions.{showAnswer, flagAnswer, numberAnswer};
-ghost use Rattle.show.specs.Answers.{shownBytes};
+ghost use Rattle.spec.specs.Answers.{answerReport};
+ghost use Rattle.spec.specs.Questions.{showAnswer, showReport, OwnPart, flagAnswer, flagReport, numberAnswer, numberReport};
 
 pub struct Reader<'a> {
     pub db: &'a [u8],
@@ -17,22 +16,24 @@ pub fn open<'a>(db: &'a [u8]) -> Reader<'a>
 }
 
 pub fn show<'a>(r: Reader<'a>, name: &[u8], refusal: &mut u8) -> &'a [u8]
-    ensures { λ p. ⌜ (now p ≡ shownBytes (now (r .entry .db)) (showAnswer (now (r .entry .db)) (now (name .entry))))
-        × (now (refusal .exit) ≡ shownOnPaper (showAnswer (now (r .entry .db)) (now (name .entry))) .refusal) ⌝ }
+    ensures { λ p. ⌜ OwnPart (r .entry .db) (showAnswer (now (r .entry .db)) (now (name .entry))) p
+        × (now (refusal .exit) ≡ showReport (now (r .entry .db)) (now (name .entry)) .refusal) ⌝ }
 {
     let db = r.db;
     show::show(db, name, refusal)
 }
 
 pub fn flag<'a>(r: Reader<'a>, name: &[u8], id: &[u8]) -> Answer
-    ensures { λ a. ⌜ a ≡ flagAnswer (now (r .entry .db)) (now (name .entry)) (now (id .entry)) ⌝ }
+    ensures { λ a. ⌜ (a ≡ flagAnswer (now (r .entry .db)) (now (name .entry)) (now (id .entry)))
+        × (answerReport a ≡ flagReport (now (r .entry .db)) (now (name .entry)) (now (id .entry))) ⌝ }
 {
     let db = r.db;
     questions::flag(db, name, id)
 }
 
 pub fn number<'a>(r: Reader<'a>, name: &[u8], id: &[u8]) -> Answer
-    ensures { λ a. ⌜ a ≡ numberAnswer (now (r .entry .db)) (now (name .entry)) (now (id .entry)) ⌝ }
+    ensures { λ a. ⌜ (a ≡ numberAnswer (now (r .entry .db)) (now (name .entry)) (now (id .entry)))
+        × (answerReport a ≡ numberReport (now (r .entry .db)) (now (name .entry)) (now (id .entry))) ⌝ }
 {
     let db = r.db;
     questions::number(db, name, id)

@@ -7,7 +7,8 @@ ghost use lib.ListN.{length, drop, replicate};
 ghost use lib.Seq.{sets};
 ghost use Rattle.spec.specs.Choice.{both};
 ghost use Rattle.spec.specs.Padding.{delayFor, padCount};
-ghost use Rattle.spec.specs.Sending.{goodSpeed, sends, delivered, sendOutcome, sendAtOutcome};
+ghost use Rattle.spec.specs.Answers.{writtenReport};
+ghost use Rattle.spec.specs.Sending.{goodSpeed, sends, delivered, sendOutcome, sendReport, sendAtOutcome, sendAtReport};
 ghost use Rattle.sending.specs.Steps.{CommandJudged, withPads, heldFor, goodRow, goodColumn, filledFor};
 use compensations::FilledIn;
 use compensations::fill_in;
@@ -168,7 +169,8 @@ fn send_copied(bytes: &[u8], pads: usize, pad: u8, out: &mut [u8]) -> Written
 // Send: "body and padding".
 pub fn send(command: &[u8], lines: u64, speed: u64, pad: u8, out: &mut [u8]) -> Written
     ensures { λ r. ⌜ (r ≡ sendOutcome (now (command .entry)) lines speed pad (now (out .entry)) .answer)
-        × (now (out .exit) ≡ sendOutcome (now (command .entry)) lines speed pad (now (out .entry)) .buffer) ⌝ }
+        × (now (out .exit) ≡ sendOutcome (now (command .entry)) lines speed pad (now (out .entry)) .buffer)
+        × (writtenReport r ≡ sendReport (now (command .entry)) lines speed pad (now (out .entry))) ⌝ }
 {
     let judged = judge(command, good_speed(lines, speed), lines, speed);
     match judged {
@@ -231,7 +233,8 @@ pub fn send_at(
     out: &mut [u8],
 ) -> Written
     ensures { λ r. ⌜ (r ≡ sendAtOutcome (now (command .entry)) row column (now (back .entry)) (now (up .entry)) lines speed pad (now (out .entry)) .answer)
-        × (now (out .exit) ≡ sendAtOutcome (now (command .entry)) row column (now (back .entry)) (now (up .entry)) lines speed pad (now (out .entry)) .buffer) ⌝ }
+        × (now (out .exit) ≡ sendAtOutcome (now (command .entry)) row column (now (back .entry)) (now (up .entry)) lines speed pad (now (out .entry)) .buffer)
+        × (writtenReport r ≡ sendAtReport (now (command .entry)) row column (now (back .entry)) (now (up .entry)) lines speed pad (now (out .entry))) ⌝ }
 {
     let r = Row(held_for(row));
     let c = Column(held_for(column));

@@ -7,13 +7,13 @@ use spec::MOST_BYTES;
 use spec::Refusal;
 use spec::Shown;
 ghost use mathlib.Core.Path.{_≡_};
-ghost use Rattle.spec.specs.Answers.{shownOnPaper};
-ghost use Rattle.spec.specs.Questions.{showAnswer};
-ghost use Rattle.show.specs.Answers.{shownBytes};
+ghost use Rattle.spec.specs.Answers.{shownReport};
+ghost use Rattle.spec.specs.Questions.{showAnswer, showReport, OwnPart};
 
 // The part of the database that is shown, by its ends.
 pub fn show_part(db: &[u8], name: &[u8]) -> Shown
-    ensures { λ r. ⌜ r ≡ showAnswer (now (db .entry)) (now (name .entry)) ⌝ }
+    ensures { λ r. ⌜ (r ≡ showAnswer (now (db .entry)) (now (name .entry)))
+        × (shownReport r ≡ showReport (now (db .entry)) (now (name .entry))) ⌝ }
 {
     if !is_good_name(name) {
         return Shown::Refused(Refusal::BadName);
@@ -30,8 +30,8 @@ pub fn show_part(db: &[u8], name: &[u8]) -> Shown
 // The caller's own bytes, with 0 for the refusal; or an empty part and the refusal's number. (No enum can hold a slice, so the refusal is
 // stored.)
 pub fn show<'a>(db: &'a [u8], name: &[u8], refusal: &mut u8) -> &'a [u8]
-    ensures { λ r. ⌜ (now r ≡ shownBytes (now (db .entry)) (showAnswer (now (db .entry)) (now (name .entry))))
-        × (now (refusal .exit) ≡ shownOnPaper (showAnswer (now (db .entry)) (now (name .entry))) .refusal) ⌝ }
+    ensures { λ r. ⌜ OwnPart (db .entry) (showAnswer (now (db .entry)) (now (name .entry))) r
+        × (now (refusal .exit) ≡ showReport (now (db .entry)) (now (name .entry)) .refusal) ⌝ }
 {
     match show_part(db, name) {
         Shown::Refused(r) => {

@@ -3,7 +3,8 @@ use mathlib.Core.Path.{_≡_, refl, sym, ap, ap₂, _∙_}
 use mathlib.Core.Bool.{Bool, true, false}
 use mathlib.Core.List.{List, [], _∷_, _++_}
 use Prim.Native.Nat.{ℕ, zero, suc, _+_, _-_, _*_, _/_, _%_, _^_, _≤_, _<_}
-use native.Mathlib.Nat.{pow-zero, pow-suc, add-mul, mul-assoc, mul-comm, mod-lt, div-add-mod', pow-le-pow-right, le-div-iff-mul-le, mul-le-mul-left, one-mul, zero-mul, add-zero, div-one, mod-eq-of-lt, div-div-eq-div-mul}
+use native.Mathlib.Nat.{pow-zero, pow-suc, pow-le-pow-right, add-mul, mul-assoc, mul-comm, one-mul, zero-mul, add-zero, mul-le-mul-left}
+use native.Mathlib.Nat.{mod-lt, mod-eq-of-lt, div-one, div-add-mod', div-div-eq-div-mul, le-div-iff-mul-le}
 use native.Mathlib.Decide.{decLt}
 use native.Mathlib.Omega.{arith}
 use borrow.Author.Tests.{ltb-true, ltb-false}
@@ -19,6 +20,10 @@ use Rattle.spec.specs.Digits.{isDigit, areDigits, valueFrom, value, spel
 pub pow-above : (base k : ℕ) → 0 < base → 0 < base ^ k
 pow-above base k h = let p : base ^ 0 ≤ base ^ k = pow-le-pow-right h (omega arith) in rw (pow-zero base) at p
 
+-- one factor more is one power more
+one-power : (n base k : ℕ) → n * base * base ^ k ≡ n * base ^ suc k
+one-power n base k = mul-assoc n base (base ^ k) ∙ ap (λ (x : ℕ). n * x) (mul-comm base (base ^ k) ∙ sym (pow-suc base k))
+
 -- ---- reading: what was spelled is read back, in any base
 
 pub read-back : (base k acc n : ℕ) → 0 < base → n < base ^ k → valueFrom base acc (spell base k n) ≡ acc * base ^ k + n
@@ -31,7 +36,7 @@ read-back base (suc k) acc n b h =
     let digit : 48 + n / base ^ k - 48 ≡ n / base ^ k = omega arith in
     let ih = read-back base k (acc * base + n / base ^ k) (n % base ^ k) b (mod-lt n above) in
     let sum : (acc * base + n / base ^ k) * base ^ k ≡ acc * base * base ^ k + n / base ^ k * base ^ k = add-mul (acc * base) (n / base ^ k) (base ^ k) in
-    let turn : acc * base * base ^ k ≡ acc * base ^ suc k = mul-assoc acc base (base ^ k) ∙ ap (λ (x : ℕ). acc * x) (mul-comm base (base ^ k) ∙ sym (pow-suc base k)) in
+    let turn = one-power acc base k in
     ap (λ (d : ℕ). valueFrom base (acc * base + d) (spell base k (n % base ^ k))) digit ∙ ih ∙ omega (arith, sum, turn, div-add-mod' n (base ^ k))
 
 pub spell-length : (base k n : ℕ) → length (spell base k n) ≡ k
@@ -46,9 +51,9 @@ value-from base acc [] = rw pow-zero (omega arith)
 value-from base acc (c ∷ s) =
     let here = value-from base (acc * base + (c - 48)) s in
     let there = value-from base (0 * base + (c - 48)) s in
-    let one : (acc * base + (c - 48)) * base ^ length s ≡ acc * base * base ^ length s + (c - 48) * base ^ length s = add-mul (acc * base) (c - 48) (base ^ length s) in
+    let one = add-mul (acc * base) (c - 48) (base ^ length s) in
     let two : (0 * base + (c - 48)) * base ^ length s ≡ (c - 48) * base ^ length s = rw zero-mul (ap (λ (x : ℕ). x * base ^ length s) (omega arith)) in
-    let turn : acc * base * base ^ length s ≡ acc * base ^ suc (length s) = mul-assoc acc base (base ^ length s) ∙ ap (λ (x : ℕ). acc * x) (mul-comm base (base ^ length s) ∙ sym (pow-suc base (length s))) in
+    let turn = one-power acc base (length s) in
     omega arith
 
 value-first : (base c : ℕ) (s : List ℕ) → value base (c ∷ s) ≡ (c - 48) * base ^ length s + value base s

@@ -1,4 +1,4 @@
--- What an operation with output gives: an answer and the lent buffer afterwards; and document 01's numbers for each answer.
+-- What an operation with output gives: an answer and the lent buffer afterwards; and document 01's number and values for each answer.
 use Prim.Native.Nat.{ℕ}
 use mathlib.Core.List.{List, [], _∷_, _++_}
 use lib.Dec.{leb}
@@ -30,24 +30,26 @@ put bytes n buffer =
     (record { answer = Count n; buffer = bytes ++ drop (length bytes) buffer })
     (keeping (NotWritten NoRoom) buffer)
 
--- ---- document 01's numbers: the refusal, or 0 and the values that the answer reports (none if absent)
+-- ---- document 01's number and values for each case of an answer
 
-pub record Paper : Type 0 where
+-- The refusal's number, or 0; and the values that are reported, none if absent or refused.
+pub record Report : Type 0 where
   pub refusal : ℕ
   pub values : List ℕ
 
-abbrev pub refusedOnPaper : Refusal → Paper
-refusedOnPaper r = record { refusal = refusalNumber r; values = [] }
+abbrev pub refusedReport : Refusal → Report
+refusedReport r = record { refusal = refusalNumber r; values = [] }
 
-abbrev pub answerOnPaper : Answer → Paper
-answerOnPaper (Present v) = record { refusal = 0; values = v ∷ [] }
-answerOnPaper Absent = record { refusal = 0; values = [] }
-answerOnPaper (Refused r) = refusedOnPaper r
+abbrev pub answerReport : Answer → Report
+answerReport (Present v) = record { refusal = 0; values = v ∷ [] }
+answerReport Absent = record { refusal = 0; values = [] }
+answerReport (Refused r) = refusedReport r
 
-abbrev pub writtenOnPaper : Written → Paper
-writtenOnPaper (Count n) = record { refusal = 0; values = n ∷ [] }
-writtenOnPaper (NotWritten r) = refusedOnPaper r
+abbrev pub writtenReport : Written → Report
+writtenReport (Count n) = record { refusal = 0; values = n ∷ [] }
+writtenReport (NotWritten r) = refusedReport r
 
-abbrev pub shownOnPaper : Shown → Paper
-shownOnPaper (Part from to) = record { refusal = 0; values = from ∷ to ∷ [] }
-shownOnPaper (NotShown r) = refusedOnPaper r
+-- The place where the part starts, and the one where it ends.
+abbrev pub shownReport : Shown → Report
+shownReport (Part from to) = record { refusal = 0; values = from ∷ to ∷ [] }
+shownReport (NotShown r) = refusedReport r

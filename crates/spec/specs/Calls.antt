@@ -5,8 +5,8 @@ use Prim.Native.String.{String as Chars}
 use mathlib.Core.Path.{_≡_}
 use mathlib.Core.List.{List, [], _∷_, _++_, map}
 use lib.ListN.{replicate}
-use Rattle.spec.specs.Answers.{Outcome, keeping, Paper, answerOnPaper, writtenOnPaper, shownOnPaper}
-use Rattle.spec.specs.Questions.{showAnswer, flagAnswer, numberAnswer, stringOutcome}
+use Rattle.spec.specs.Answers.{Outcome, keeping, Report, answerReport, writtenReport}
+use Rattle.spec.specs.Questions.{showReport, flagReport, numberReport, stringOutcome}
 use Rattle.spec.specs.Listing.{listOutcome, flatOutcome}
 use Rattle.spec.specs.Sending.{sendOutcome, sendAtOutcome}
 
@@ -27,36 +27,36 @@ pub data Call : Type 0 where
   send : List ℕ → ℕ → ℕ → ℕ → Call
   sendAt : List ℕ → ℕ → ℕ → List ℕ → List ℕ → ℕ → Call
 
-abbrev pub onPaper : {A : Type 0} → (A → Paper) → Outcome A → Outcome Paper
-onPaper f o = record { answer = f (o .answer); buffer = o .buffer }
+abbrev pub reported : {A : Type 0} → (A → Report) → Outcome A → Outcome Report
+reported f o = record { answer = f (o .answer); buffer = o .buffer }
 
 abbrev pub lent : ℕ → List ℕ
 lent room = replicate room 255
 
--- The answer in document 01's numbers, and the buffer afterwards.
-abbrev pub computed : Call → Outcome Paper
-computed (show db name) = keeping (shownOnPaper (showAnswer (ascii db) (ascii name))) []
-computed (flag db name id) = keeping (answerOnPaper (flagAnswer (ascii db) (ascii name) (ascii id))) []
-computed (number db name id) = keeping (answerOnPaper (numberAnswer (ascii db) (ascii name) (ascii id))) []
-computed (string db name id room) = onPaper answerOnPaper (stringOutcome (ascii db) (ascii name) (ascii id) (lent room))
-computed (list db name room) = onPaper writtenOnPaper (listOutcome (ascii db) (ascii name) (lent room))
-computed (flat db name room) = onPaper writtenOnPaper (flatOutcome (ascii db) (ascii name) (lent room))
-computed (send cmd lines speed room) = onPaper writtenOnPaper (sendOutcome cmd lines speed 0 (lent room))
-computed (sendAt cmd row column back up room) = onPaper writtenOnPaper (sendAtOutcome cmd row column back up 1 0 0 (lent room))
+-- The report of the answer, and the buffer afterwards.
+abbrev pub computed : Call → Outcome Report
+computed (show db name) = keeping (showReport (ascii db) (ascii name)) []
+computed (flag db name id) = keeping (flagReport (ascii db) (ascii name) (ascii id)) []
+computed (number db name id) = keeping (numberReport (ascii db) (ascii name) (ascii id)) []
+computed (string db name id room) = reported answerReport (stringOutcome (ascii db) (ascii name) (ascii id) (lent room))
+computed (list db name room) = reported writtenReport (listOutcome (ascii db) (ascii name) (lent room))
+computed (flat db name room) = reported writtenReport (flatOutcome (ascii db) (ascii name) (lent room))
+computed (send cmd lines speed room) = reported writtenReport (sendOutcome cmd lines speed 0 (lent room))
+computed (sendAt cmd row column back up room) = reported writtenReport (sendAtOutcome cmd row column back up 1 0 0 (lent room))
 
 -- What is stated: the values that are reported, the bytes that are written and after them those of the buffer that stay; or a refusal, and
 -- all stay.
-abbrev pub reports : List ℕ → List ℕ → ℕ → Outcome Paper
+abbrev pub reports : List ℕ → List ℕ → ℕ → Outcome Report
 reports values bytes rest = record { answer = record { refusal = 0; values = values }; buffer = bytes ++ lent rest }
 
-abbrev pub refuses : ℕ → ℕ → Outcome Paper
+abbrev pub refuses : ℕ → ℕ → Outcome Report
 refuses n rest = record { answer = record { refusal = n; values = [] }; buffer = lent rest }
 
 pub record Example : Type 0 where
   pub call : Call
-  pub stated : Outcome Paper
+  pub stated : Outcome Report
 
-abbrev pub example : Call → Outcome Paper → Example
+abbrev pub example : Call → Outcome Report → Example
 example c o = record { call = c; stated = o }
 
 -- Each call of a list gives what is stated of it.

@@ -5,7 +5,7 @@ use lib.ListN.{length}
 use Rattle.spec.specs.Fields.{Reading, malformed, ignored, link, capability, reading, withColons, contentKind, contentValue}
 use Rattle.spec.specs.Chain.{Field, texts, Terminal, refused, terminal}
 use Rattle.spec.specs.Lookup.{winning}
-use Rattle.spec.specs.Answers.{Outcome, keeping, put}
+use Rattle.spec.specs.Answers.{Outcome, keeping, put, Report, writtenReport}
 use Rattle.spec.specs.Questions.{terminalOf}
 use Rattle.spec.specs.declared.Written.{Written}
 use Rattle.spec.specs.declared.Written.the-variants.{Refused}
@@ -35,6 +35,9 @@ listFor (terminal names fs) buffer = put (records (winning fs)) (length (winning
 unfoldable pub listOutcome : List ℕ → List ℕ → List ℕ → Outcome Written
 listOutcome db name buffer = listFor (terminalOf db name) buffer
 
+abbrev pub listReport : List ℕ → List ℕ → List ℕ → Report
+listReport db name buffer = writtenReport (listOutcome db name buffer .answer)
+
 -- ---- Flat: "the first line's names, a colon, then each winning field as written (joined) with a colon, then a newline"
 
 unfoldable pub flatText : List ℕ → List Field → List ℕ
@@ -46,6 +49,9 @@ flatFor (terminal names fs) buffer = put (flatText names fs) (length (flatText n
 
 unfoldable pub flatOutcome : List ℕ → List ℕ → List ℕ → Outcome Written
 flatOutcome db name buffer = flatFor (terminalOf db name) buffer
+
+abbrev pub flatReport : List ℕ → List ℕ → List ℕ → Report
+flatReport db name buffer = writtenReport (flatOutcome db name buffer .answer)
 
 -- ---- what an accepted chain can need at most
 

@@ -1,14 +1,16 @@
 -- Show, Flag, Number and String: from the inputs and the lent buffer to the answer and the buffer afterwards.
-use Prim.Native.Nat.{ℕ}
-use mathlib.Core.List.{List}
-use lib.ListN.{length}
+use Prim.Native.Nat.{ℕ, _+_, _-_}
+use mathlib.Core.Path.{_≡_}
+use mathlib.Core.List.{List, []}
+use lib.ListN.{length, take, drop}
+use denote.Ref.{RefT, now}
 use Rattle.spec.specs.Choice.{pick}
 use Rattle.spec.specs.Refusals.{goodName, goodId, tooLarge}
 use Rattle.spec.specs.Lines.{findLine, extent}
 use Rattle.spec.specs.Fields.{reading, kindNumber}
 use Rattle.spec.specs.Chain.{Terminal, refused, terminal, resolve}
 use Rattle.spec.specs.Lookup.{Hit, none, hit, lookup, valueOf, bytesOf}
-use Rattle.spec.specs.Answers.{Outcome, keeping, put}
+use Rattle.spec.specs.Answers.{Outcome, keeping, put, Report, answerReport, shownReport}
 use Rattle.spec.specs.declared.Found.{Found}
 use Rattle.spec.specs.declared.Found.the-variants.{At, Nothing}
 use Rattle.spec.specs.declared.Kind.{Kind}
@@ -44,8 +46,14 @@ answerFor id k (terminal names fs) = hitAnswer (lookup id (kindNumber k) fs)
 unfoldable pub flagAnswer : List ℕ → List ℕ → List ℕ → Answer
 flagAnswer db name id = answerFor id Flag (terminalFor db name id)
 
+abbrev pub flagReport : List ℕ → List ℕ → List ℕ → Report
+flagReport db name id = answerReport (flagAnswer db name id)
+
 unfoldable pub numberAnswer : List ℕ → List ℕ → List ℕ → Answer
 numberAnswer db name id = answerFor id Number (terminalFor db name id)
+
+abbrev pub numberReport : List ℕ → List ℕ → List ℕ → Report
+numberReport db name id = answerReport (numberAnswer db name id)
 
 -- ---- String: "writes the decoded bytes and reports their count"; "absent is no refusal, and writes nothing"
 
@@ -66,6 +74,9 @@ stringFor id (terminal names fs) buffer = decodedOutcome (lookup id (kindNumber 
 unfoldable pub stringOutcome : List ℕ → List ℕ → List ℕ → List ℕ → Outcome Answer
 stringOutcome db name id buffer = stringFor id (terminalFor db name id) buffer
 
+abbrev pub stringReport : List ℕ → List ℕ → List ℕ → List ℕ → Report
+stringReport db name id buffer = answerReport (stringOutcome db name id buffer .answer)
+
 -- ---- Show: 1, 3, 4. "It looks at names only, not at fields or links."
 
 unfoldable pub shown : List ℕ → Found → Shown
@@ -74,3 +85,20 @@ shown db Nothing = NotShown UnknownName
 
 unfoldable pub showAnswer : List ℕ → List ℕ → Shown
 showAnswer db name = pick (goodName name) (pick (tooLarge db) (NotShown DatabaseTooLarge) (shown db (findLine db name))) (NotShown BadName)
+
+abbrev pub showReport : List ℕ → List ℕ → Report
+showReport db name = shownReport (showAnswer db name)
+
+-- The bytes of the shown part, and the place of the database where it starts: "for Show also an empty part" with a refusal, at the start.
+abbrev pub shownBytes : List ℕ → Shown → List ℕ
+shownBytes db (Part from to) = take (to - from) (drop from db)
+shownBytes db (NotShown r) = []
+
+abbrev pub shownFrom : Shown → ℕ
+shownFrom (Part from to) = from
+shownFrom (NotShown r) = 0
+
+-- "The caller's own bytes, no copy": the part lies in the database itself, at that place, and has these bytes.
+abbrev pub OwnPart : RefT (List ℕ) → Shown → RefT (List ℕ) → Type 0
+OwnPart db answer part =
+    (part .ptr .0 ≡ db .ptr .0) × (part .ptr .1 ≡ db .ptr .1 + shownFrom answer) × (now part ≡ shownBytes (now db) answer)

@@ -7,7 +7,7 @@ use lib.Dec.{leb}
 use Rattle.spec.specs.Choice.{pick, both, between}
 use Rattle.spec.specs.Padding.{Prefix, Split, prefixOf, delayFor, padCount}
 use Rattle.spec.specs.Position.{Body, body, fault, fillIn}
-use Rattle.spec.specs.Answers.{Outcome, keeping, put}
+use Rattle.spec.specs.Answers.{Outcome, keeping, put, Report, writtenReport}
 use Rattle.spec.specs.declared.Refusal.{Refusal}
 use Rattle.spec.specs.declared.Refusal.the-variants.{OutOfRange}
 use Rattle.spec.specs.declared.Written.{Written}
@@ -82,5 +82,11 @@ delivered (stops r) buffer = keeping (Refused r) buffer
 unfoldable pub sendOutcome : List ℕ → ℕ → ℕ → ℕ → List ℕ → Outcome Written
 sendOutcome cmd lines speed pad buffer = delivered (outgoing cmd lines speed pad) buffer
 
+abbrev pub sendReport : List ℕ → ℕ → ℕ → ℕ → List ℕ → Report
+sendReport cmd lines speed pad buffer = writtenReport (sendOutcome cmd lines speed pad buffer .answer)
+
 unfoldable pub sendAtOutcome : List ℕ → ℕ → ℕ → List ℕ → List ℕ → ℕ → ℕ → ℕ → List ℕ → Outcome Written
 sendAtOutcome cmd row column back up lines speed pad buffer = delivered (outgoingAt cmd row column back up lines speed pad) buffer
+
+abbrev pub sendAtReport : List ℕ → ℕ → ℕ → List ℕ → List ℕ → ℕ → ℕ → ℕ → List ℕ → Report
+sendAtReport cmd row column back up lines speed pad buffer = writtenReport (sendAtOutcome cmd row column back up lines speed pad buffer .answer)

@@ -1,40 +1,31 @@
--- What a C function returns and stores for each answer: 0 with the reported numbers; 255 if absent; else the refusal's number, and
--- nothing is stored.
+-- What a C function returns and stores for the report of an answer: 0, and the values are stored; 255 if there are no values (absent); for a
+-- refusal its number. Where there are no values, what was stored stays.
 use Prim.Native.Nat.{ℕ, _-_}
-use Rattle.spec.specs.Refusals.{refusalNumber}
-use Rattle.spec.specs.declared.Answer.{Answer}
-use Rattle.spec.specs.declared.Answer.the-variants.{Present, Absent, Refused}
-use Rattle.spec.specs.declared.Written.{Written}
-use Rattle.spec.specs.declared.Written.the-variants.{Count, Refused as NotWritten}
-use Rattle.spec.specs.declared.Shown.{Shown}
-use Rattle.spec.specs.declared.Shown.the-variants.{Part, Refused as NotShown}
+use mathlib.Core.List.{List, [], _∷_}
+use lib.Dec.{eqb}
+use Rattle.spec.specs.Choice.{pick}
+use Rattle.spec.specs.Answers.{Report}
 
-abbrev pub answerResult : Answer → ℕ
-answerResult (Present v) = 0
-answerResult Absent = 255
-answerResult (Refused r) = refusalNumber r
+abbrev pub acceptedResult : List ℕ → ℕ
+acceptedResult [] = 255
+acceptedResult (v ∷ vs) = 0
 
-abbrev pub answerValue : Answer → ℕ → ℕ
-answerValue (Present v) old = v
-answerValue Absent old = old
-answerValue (Refused r) old = old
+abbrev pub resultOf : Report → ℕ
+resultOf p = pick (eqb (p .refusal) 0) (acceptedResult (p .values)) (p .refusal)
 
-abbrev pub writtenResult : Written → ℕ
-writtenResult (Count n) = 0
-writtenResult (NotWritten r) = refusalNumber r
+abbrev pub firstOr : List ℕ → ℕ → ℕ
+firstOr [] old = old
+firstOr (v ∷ vs) old = v
 
-abbrev pub writtenCount : Written → ℕ → ℕ
-writtenCount (Count n) old = n
-writtenCount (NotWritten r) old = old
+abbrev pub lengthOr : List ℕ → ℕ → ℕ
+lengthOr [] old = old
+lengthOr (from ∷ []) old = old
+lengthOr (from ∷ to ∷ vs) old = to - from
 
-abbrev pub shownResult : Shown → ℕ
-shownResult (Part from to) = 0
-shownResult (NotShown r) = refusalNumber r
+-- The value of a question, a count, or the start of a shown part.
+abbrev pub storedValue : Report → ℕ → ℕ
+storedValue p old = firstOr (p .values) old
 
-abbrev pub shownStart : Shown → ℕ → ℕ
-shownStart (Part from to) old = from
-shownStart (NotShown r) old = old
-
-abbrev pub shownLength : Shown → ℕ → ℕ
-shownLength (Part from to) old = to - from
-shownLength (NotShown r) old = old
+-- The length of a shown part.
+abbrev pub storedLength : Report → ℕ → ℕ
+storedLength p old = lengthOr (p .values) old

@@ -20,14 +20,15 @@ pub use spec::Refusal;
 pub use spec::Shown;
 pub use spec::Written;
 ghost use mathlib.Core.Path.{_≡_};
-ghost use Rattle.spec.specs.Questions.{showAnswer, flagAnswer, numberAnswer, stringOutcome};
-ghost use Rattle.spec.specs.Listing.{listOutcome, flatOutcome};
-ghost use Rattle.spec.specs.Sending.{sendOutcome, sendAtOutcome};
-ghost use Rattle.termcap.specs.Results.{answerResult, answerValue, writtenResult, writtenCount, shownResult, shownStart, shownLength};
+ghost use Rattle.spec.specs.Answers.{answerReport, writtenReport};
+ghost use Rattle.spec.specs.Questions.{showReport, flagReport, numberReport, stringOutcome, stringReport};
+ghost use Rattle.spec.specs.Listing.{listOutcome, listReport, flatOutcome, flatReport};
+ghost use Rattle.spec.specs.Sending.{sendOutcome, sendReport, sendAtOutcome, sendAtReport};
+ghost use Rattle.termcap.specs.Results.{resultOf, storedValue, storedLength};
 
 // The result of a question; a value is stored if it is present.
 fn give_answer(a: Answer, value: &mut u64) -> u32
-    ensures { λ r. ⌜ (r ≡ answerResult a) × (now (value .exit) ≡ answerValue a (now (value .entry))) ⌝ }
+    ensures { λ r. ⌜ (r ≡ resultOf (answerReport a)) × (now (value .exit) ≡ storedValue (answerReport a) (now (value .entry))) ⌝ }
 {
     match a {
         Answer::Present(v) => {
@@ -41,7 +42,7 @@ fn give_answer(a: Answer, value: &mut u64) -> u32
 
 // The result of an operation with output; the count is stored if it is accepted.
 fn give_count(w: Written, count: &mut u64) -> u32
-    ensures { λ r. ⌜ (r ≡ writtenResult w) × (now (count .exit) ≡ writtenCount w (now (count .entry))) ⌝ }
+    ensures { λ r. ⌜ (r ≡ resultOf (writtenReport w)) × (now (count .exit) ≡ storedValue (writtenReport w) (now (count .entry))) ⌝ }
 {
     match w {
         Written::Count(n) => {
@@ -55,9 +56,9 @@ fn give_count(w: Written, count: &mut u64) -> u32
 // "The part of the caller's database that holds the first description with that name."
 #[no_mangle]
 pub extern "C" fn termcap_show(db: &[u8], name: &[u8], start: &mut u64, length: &mut u64) -> u32
-    ensures { λ r. ⌜ (r ≡ shownResult (showAnswer (now (db .entry)) (now (name .entry))))
-        × (now (start .exit) ≡ shownStart (showAnswer (now (db .entry)) (now (name .entry))) (now (start .entry)))
-        × (now (length .exit) ≡ shownLength (showAnswer (now (db .entry)) (now (name .entry))) (now (length .entry))) ⌝ }
+    ensures { λ r. ⌜ (r ≡ resultOf (showReport (now (db .entry)) (now (name .entry))))
+        × (now (start .exit) ≡ storedValue (showReport (now (db .entry)) (now (name .entry))) (now (start .entry)))
+        × (now (length .exit) ≡ storedLength (showReport (now (db .entry)) (now (name .entry))) (now (length .entry))) ⌝ }
 {
     match show_part(db, name) {
         Shown::Part(from, to) => {
@@ -71,16 +72,16 @@ pub extern "C" fn termcap_show(db: &[u8], name: &[u8], start: &mut u64, length: 
 
 #[no_mangle]
 pub extern "C" fn termcap_flag(db: &[u8], name: &[u8], id: &[u8], value: &mut u64) -> u32
-    ensures { λ r. ⌜ (r ≡ answerResult (flagAnswer (now (db .entry)) (now (name .entry)) (now (id .entry))))
-        × (now (value .exit) ≡ answerValue (flagAnswer (now (db .entry)) (now (name .entry)) (now (id .entry))) (now (value .entry))) ⌝ }
+    ensures { λ r. ⌜ (r ≡ resultOf (flagReport (now (db .entry)) (now (name .entry)) (now (id .entry))))
+        × (now (value .exit) ≡ storedValue (flagReport (now (db .entry)) (now (name .entry)) (now (id .entry))) (now (value .entry))) ⌝ }
 {
     give_answer(flag(db, name, id), value)
 }
 
 #[no_mangle]
 pub extern "C" fn termcap_number(db: &[u8], name: &[u8], id: &[u8], value: &mut u64) -> u32
-    ensures { λ r. ⌜ (r ≡ answerResult (numberAnswer (now (db .entry)) (now (name .entry)) (now (id .entry))))
-        × (now (value .exit) ≡ answerValue (numberAnswer (now (db .entry)) (now (name .entry)) (now (id .entry))) (now (value .entry))) ⌝ }
+    ensures { λ r. ⌜ (r ≡ resultOf (numberReport (now (db .entry)) (now (name .entry)) (now (id .entry))))
+        × (now (value .exit) ≡ storedValue (numberReport (now (db .entry)) (now (name .entry)) (now (id .entry))) (now (value .entry))) ⌝ }
 {
     give_answer(number(db, name, id), value)
 }
@@ -93,27 +94,27 @@ pub extern "C" fn termcap_string(
     out: &mut [u8],
     count: &mut u64,
 ) -> u32
-    ensures { λ r. ⌜ (r ≡ answerResult (stringOutcome (now (db .entry)) (now (name .entry)) (now (id .entry)) (now (out .entry)) .answer))
+    ensures { λ r. ⌜ (r ≡ resultOf (stringReport (now (db .entry)) (now (name .entry)) (now (id .entry)) (now (out .entry))))
         × (now (out .exit) ≡ stringOutcome (now (db .entry)) (now (name .entry)) (now (id .entry)) (now (out .entry)) .buffer)
-        × (now (count .exit) ≡ answerValue (stringOutcome (now (db .entry)) (now (name .entry)) (now (id .entry)) (now (out .entry)) .answer) (now (count .entry))) ⌝ }
+        × (now (count .exit) ≡ storedValue (stringReport (now (db .entry)) (now (name .entry)) (now (id .entry)) (now (out .entry))) (now (count .entry))) ⌝ }
 {
     give_answer(string(db, name, id, out), count)
 }
 
 #[no_mangle]
 pub extern "C" fn termcap_list(db: &[u8], name: &[u8], out: &mut [u8], records: &mut u64) -> u32
-    ensures { λ r. ⌜ (r ≡ writtenResult (listOutcome (now (db .entry)) (now (name .entry)) (now (out .entry)) .answer))
+    ensures { λ r. ⌜ (r ≡ resultOf (listReport (now (db .entry)) (now (name .entry)) (now (out .entry))))
         × (now (out .exit) ≡ listOutcome (now (db .entry)) (now (name .entry)) (now (out .entry)) .buffer)
-        × (now (records .exit) ≡ writtenCount (listOutcome (now (db .entry)) (now (name .entry)) (now (out .entry)) .answer) (now (records .entry))) ⌝ }
+        × (now (records .exit) ≡ storedValue (listReport (now (db .entry)) (now (name .entry)) (now (out .entry))) (now (records .entry))) ⌝ }
 {
     give_count(list(db, name, out), records)
 }
 
 #[no_mangle]
 pub extern "C" fn termcap_flat(db: &[u8], name: &[u8], out: &mut [u8], count: &mut u64) -> u32
-    ensures { λ r. ⌜ (r ≡ writtenResult (flatOutcome (now (db .entry)) (now (name .entry)) (now (out .entry)) .answer))
+    ensures { λ r. ⌜ (r ≡ resultOf (flatReport (now (db .entry)) (now (name .entry)) (now (out .entry))))
         × (now (out .exit) ≡ flatOutcome (now (db .entry)) (now (name .entry)) (now (out .entry)) .buffer)
-        × (now (count .exit) ≡ writtenCount (flatOutcome (now (db .entry)) (now (name .entry)) (now (out .entry)) .answer) (now (count .entry))) ⌝ }
+        × (now (count .exit) ≡ storedValue (flatReport (now (db .entry)) (now (name .entry)) (now (out .entry))) (now (count .entry))) ⌝ }
 {
     give_count(flat(db, name, out), count)
 }
@@ -127,9 +128,9 @@ pub extern "C" fn termcap_send(
     out: &mut [u8],
     count: &mut u64,
 ) -> u32
-    ensures { λ r. ⌜ (r ≡ writtenResult (sendOutcome (now (command .entry)) lines speed pad (now (out .entry)) .answer))
+    ensures { λ r. ⌜ (r ≡ resultOf (sendReport (now (command .entry)) lines speed pad (now (out .entry))))
         × (now (out .exit) ≡ sendOutcome (now (command .entry)) lines speed pad (now (out .entry)) .buffer)
-        × (now (count .exit) ≡ writtenCount (sendOutcome (now (command .entry)) lines speed pad (now (out .entry)) .answer) (now (count .entry))) ⌝ }
+        × (now (count .exit) ≡ storedValue (sendReport (now (command .entry)) lines speed pad (now (out .entry))) (now (count .entry))) ⌝ }
 {
     give_count(send(command, lines, speed, pad, out), count)
 }
@@ -147,9 +148,9 @@ pub extern "C" fn termcap_send_at(
     out: &mut [u8],
     count: &mut u64,
 ) -> u32
-    ensures { λ r. ⌜ (r ≡ writtenResult (sendAtOutcome (now (command .entry)) row column (now (back .entry)) (now (up .entry)) lines speed pad (now (out .entry)) .answer))
+    ensures { λ r. ⌜ (r ≡ resultOf (sendAtReport (now (command .entry)) row column (now (back .entry)) (now (up .entry)) lines speed pad (now (out .entry))))
         × (now (out .exit) ≡ sendAtOutcome (now (command .entry)) row column (now (back .entry)) (now (up .entry)) lines speed pad (now (out .entry)) .buffer)
-        × (now (count .exit) ≡ writtenCount (sendAtOutcome (now (command .entry)) row column (now (back .entry)) (now (up .entry)) lines speed pad (now (out .entry)) .answer) (now (count .entry))) ⌝ }
+        × (now (count .exit) ≡ storedValue (sendAtReport (now (command .entry)) row column (now (back .entry)) (now (up .entry)) lines speed pad (now (out .entry))) (now (count .entry))) ⌝ }
 {
     give_count(
         send_at(command, row, column, back, up, lines, speed, pad, out),

@@ -34,4 +34,4 @@ module _ (db name : List ℕ) where
     pub walked-resolved : (c : Chain) (w : Ended) → Walked db name c w → Resolved db name c w
     unfolding described
     walked-resolved c Accepted q = (rw (terminal-walked, q .0), q .1, q .2, h)
-    walked-resolved c (Refused r) q = rw (terminal-walked, q)
+    walked-resolved c (Refused r) q = (rw (terminal-walked, q .0), q .1)

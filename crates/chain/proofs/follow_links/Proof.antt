@@ -41,30 +41,40 @@ enum-known-found c = search needs
 enum-told : tie.Need-enum-told Inv-loop μ-loop
 enum-told c = search needs
 
-refused-requires : tie.Need-refused-requires Inv-loop μ-loop
-refused-requires c κs = search needs
+no-chain-requires : tie.Need-no-chain-requires Inv-loop μ-loop
+no-chain-requires c κs = search needs
 
 returns : tie.Need-returns Inv-loop μ-loop
-returns c = rw (c .refused .ensures) (rw (c .before .enum-told .given .1) at (c .before .before .before .loop .inv .walked) ∙ WalkSteps.follow-none _ _ _ _ _)
+returns c =
+    let w = rw (c .before .enum-told .given .1) at
+    (c .before .before .before .loop .inv .walked) in
+    rw (c .no-chain .ensures)
+    (w ∙ WalkSteps.follow-none _ _ _ _ _, refl)
 
 is-visited-requires : tie.Need-is-visited-requires Inv-loop μ-loop
 is-visited-requires c κs = omega arith
 
-refused-requires-2 : tie.Need-refused-requires-2 Inv-loop μ-loop
-refused-requires-2 c κs = search needs
+no-chain-requires-2 : tie.Need-no-chain-requires-2 Inv-loop μ-loop
+no-chain-requires-2 c κs = search needs
 
 returns-2 : tie.Need-returns-2 Inv-loop μ-loop
 returns-2 c =
     let v = sym (c .before .before .is-visited .ensures) ∙ c .before .if1 .taken in
-    rw (c .refused2 .ensures) (rw (c .before .before .before .before .found .given .1) at (c .before .before .before .before .before .before .loop .inv .walked) ∙ WalkSteps.follow-back _ _ _ _ _ _ v)
+    let w = rw (c .before .before .before .before .found .given .1) at
+    (c .before .before .before .before .before .before .loop .inv .walked) in
+    rw (c .no-chain2 .ensures)
+    (w ∙ WalkSteps.follow-back _ _ _ _ _ _ v, refl)
 
-refused-requires-3 : tie.Need-refused-requires-3 Inv-loop μ-loop
-refused-requires-3 c κs = search needs
+no-chain-requires-3 : tie.Need-no-chain-requires-3 Inv-loop μ-loop
+no-chain-requires-3 c κs = search needs
 
 returns-3 : tie.Need-returns-3 Inv-loop μ-loop
 returns-3 c =
     let v = sym (c .before .before .before .before .is-visited .ensures) ∙ c .before .before .before .if1 .left in
-    rw (c .refused3 .ensures) (rw (c .before .before .before .before .before .before .found .given .1) at (c .before .before .before .before .before .before .before .before .loop .inv .walked) ∙ WalkSteps.follow-full _ _ _ _ _ _ (omega arith) v)
+    let w = rw (c .before .before .before .before .before .before .found .given .1) at
+    (c .before .before .before .before .before .before .before .before .loop .inv .walked) in
+    rw (c .no-chain3 .ensures)
+    (w ∙ WalkSteps.follow-full _ _ _ _ _ _ (omega arith) v, refl)
 
 judge-line-requires : tie.Need-judge-line-requires Inv-loop μ-loop
 judge-line-requires c κs = search needs
@@ -72,48 +82,66 @@ judge-line-requires c κs = search needs
 enum-told-2 : tie.Need-enum-told-2 Inv-loop μ-loop
 enum-told-2 c = search needs
 
-refused-requires-4 : tie.Need-refused-requires-4 Inv-loop μ-loop
-refused-requires-4 c κs = search needs
+no-chain-requires-4 : tie.Need-no-chain-requires-4 Inv-loop μ-loop
+no-chain-requires-4 c κs = search needs
 
 returns-4 : tie.Need-returns-4 Inv-loop μ-loop
 returns-4 c =
-    let v = sym (c .before .before .before .before .before .before .before .is-visited .ensures) ∙ c .before .before .before .before .before .before .if1 .left in
+    let v = sym (c .before .before .before .before .before .before .before .is-visited .ensures) ∙
+    c .before .before .before .before .before .before .if1 .left in
     let q = rw (c .before .enum-told2 .given .1) at (c .before .before .before .judge-line .ensures) in
-    rw (c .refused4 .ensures) (rw (c .before .before .before .before .before .before .before .before .before .found .given .1) at (c .before .before .before .before .before .before .before .before .before .before .before .loop .inv .walked) ∙ WalkPlaces.turn-spoilt _ _ _ _ _ _ (omega arith) (omega arith) (omega arith) v q)
+    let w = rw (c .before .before .before .before .before .before .before .before .before .found .given .1) at
+    (c .before .before .before .before .before .before .before .before .before .before .before .loop .inv .walked) in
+    rw (c .no-chain4 .ensures)
+    (w ∙ WalkPlaces.turn-spoilt _ _ _ _ _ _ (omega arith) (omega arith) (omega arith) v q, refl)
 
 enum-known-size : tie.Need-enum-known-size Inv-loop μ-loop
 enum-known-size c = search needs
 
-refused-requires-5 : tie.Need-refused-requires-5 Inv-loop μ-loop
-refused-requires-5 c κs = search needs
+no-chain-requires-5 : tie.Need-no-chain-requires-5 Inv-loop μ-loop
+no-chain-requires-5 c κs = search needs
 
 returns-5 : tie.Need-returns-5 Inv-loop μ-loop
 returns-5 c =
-    let v = sym (c .before .before .before .before .before .before .before .before .before .is-visited .ensures) ∙ c .before .before .before .before .before .before .before .before .if1 .left in
+    let v = sym (c .before .before .before .before .before .before .before .before .before .is-visited .ensures) ∙
+    c .before .before .before .before .before .before .before .before .if1 .left in
     let q = rw (c .before .before .before .size .given .1) at (c .before .before .before .before .before .judge-line .ensures) in
-    rw (c .refused5 .ensures) (rw (c .before .before .before .before .before .before .before .before .before .before .before .found .given .1) at (c .before .before .before .before .before .before .before .before .before .before .before .before .before .loop .inv .walked) ∙ WalkPlaces.turn-big _ _ _ _ _ _ (omega arith) (omega arith) (omega arith) v _ (WalkPlaces.last-not _ (q .0)) (q .1) (omega arith))
+    let w = rw (c .before .before .before .before .before .before .before .before .before .before .before .found .given .1) at
+    (c .before .before .before .before .before .before .before .before .before .before .before .before .before .loop .inv .walked) in
+    rw (c .no-chain5 .ensures)
+    (w ∙ WalkPlaces.turn-big _ _ _ _ _ _ (omega arith) (omega arith) (omega arith) v _ (WalkPlaces.last-not _ (q .0)) (q .1) (omega arith), refl)
 
 with-place-requires : tie.Need-with-place-requires Inv-loop μ-loop
 with-place-requires c κs = omega arith
 
 returns-6 : tie.Need-returns-6 Inv-loop μ-loop
 returns-6 c =
-    let v = sym (c .before .before .before .before .before .before .before .before .before .is-visited .ensures) ∙ c .before .before .before .before .before .before .before .before .if1 .left in
+    let v = sym (c .before .before .before .before .before .before .before .before .before .is-visited .ensures) ∙
+    c .before .before .before .before .before .before .before .before .if1 .left in
     let q = rw (c .before .before .before .size .given .1) at (c .before .before .before .before .before .judge-line .ensures) in
     let p = c .with-place .ensures in
-    (rw (p .0, p .1) (rw (c .before .before .before .before .before .before .before .before .before .before .before .found .given .1) at (c .before .before .before .before .before .before .before .before .before .before .before .before .before .loop .inv .walked) ∙ WalkPlaces.turn-last _ _ _ _ _ _ (omega arith) (omega arith) (omega arith) v _ (q .0) (q .1) (omega arith)), omega arith, omega arith)
+    let w = rw (c .before .before .before .before .before .before .before .before .before .before .before .found .given .1) at
+    (c .before .before .before .before .before .before .before .before .before .before .before .before .before .loop .inv .walked) in (
+      rw (p .0, p .1) (w ∙ WalkPlaces.turn-last _ _ _ _ _ _ (omega arith) (omega arith) (omega arith) v _ (q .0) (q .1) (omega arith)),
+      omega arith,
+      omega arith,
+    )
 
 enum-known-size-2 : tie.Need-enum-known-size-2 Inv-loop μ-loop
 enum-known-size-2 c = search needs
 
-refused-requires-6 : tie.Need-refused-requires-6 Inv-loop μ-loop
-refused-requires-6 c κs = search needs
+no-chain-requires-6 : tie.Need-no-chain-requires-6 Inv-loop μ-loop
+no-chain-requires-6 c κs = search needs
 
 returns-7 : tie.Need-returns-7 Inv-loop μ-loop
 returns-7 c =
-    let v = sym (c .before .before .before .before .before .before .before .before .before .is-visited .ensures) ∙ c .before .before .before .before .before .before .before .before .if1 .left in
+    let v = sym (c .before .before .before .before .before .before .before .before .before .is-visited .ensures) ∙
+    c .before .before .before .before .before .before .before .before .if1 .left in
     let q = rw (c .before .before .before .size2 .given .1) at (c .before .before .before .before .before .judge-line .ensures) in
-    rw (c .refused6 .ensures) (rw (c .before .before .before .before .before .before .before .before .before .before .before .found .given .1) at (c .before .before .before .before .before .before .before .before .before .before .before .before .before .loop .inv .walked) ∙ WalkPlaces.turn-big _ _ _ _ _ _ (omega arith) (omega arith) (omega arith) v _ (WalkPlaces.next-not _ _ (q .0)) (q .1) (omega arith))
+    let w = rw (c .before .before .before .before .before .before .before .before .before .before .before .found .given .1) at
+    (c .before .before .before .before .before .before .before .before .before .before .before .before .before .loop .inv .walked) in
+    rw (c .no-chain6 .ensures)
+    (w ∙ WalkPlaces.turn-big _ _ _ _ _ _ (omega arith) (omega arith) (omega arith) v _ (WalkPlaces.next-not _ _ (q .0)) (q .1) (omega arith), refl)
 
 with-place-requires-2 : tie.Need-with-place-requires-2 Inv-loop μ-loop
 with-place-requires-2 c κs = omega arith
@@ -128,14 +156,18 @@ loop-less c = omega arith
 
 loop-again : tie.Need-loop-again Inv-loop μ-loop
 loop-again c =
-    let v = sym (c .before .before .before .before .before .before .before .before .before .before .is-visited .ensures) ∙ c .before .before .before .before .before .before .before .before .before .if1 .left in
+    let v = sym (c .before .before .before .before .before .before .before .before .before .before .is-visited .ensures) ∙
+    c .before .before .before .before .before .before .before .before .before .if1 .left in
     let q = rw (c .before .before .before .before .size2 .given .1) at (c .before .before .before .before .before .before .judge-line .ensures) in
     let p = c .before .with-place2 .ensures in
+    let inv = c .before .before .before .before .before .before .before .before .before .before .before .before .before .before .loop .inv in
+    let w = rw (c .before .before .before .before .before .before .before .before .before .before .before .before .found .given .1) at (inv .walked) in
     record {
       count = omega arith;
       size = omega arith;
-      array = rw (p .0) (simp length-set (c .before .before .before .before .before .before .before .before .before .before .before .before .before .before .loop .inv .array));
-      walked = rw (p .0, p .1, c .find-linked .ensures) (rw (c .before .before .before .before .before .before .before .before .before .before .before .before .found .given .1) at (c .before .before .before .before .before .before .before .before .before .before .before .before .before .before .loop .inv .walked) ∙ WalkPlaces.turn-next _ _ _ _ _ _ (omega arith) (omega arith) (omega arith) v _ _ (q .0) (q .1) (omega arith));
+      array = rw (p .0) (simp length-set (inv .array));
+      walked = rw (p .0, p .1, c .find-linked .ensures)
+          (w ∙ WalkPlaces.turn-next _ _ _ _ _ _ (omega arith) (omega arith) (omega arith) v _ _ (q .0) (q .1) (omega arith));
     }
 
 pub follow-links-spec : {M : Type 1} → statement M
@@ -148,24 +180,24 @@ follow-links-spec =
     loop-holds
     enum-known-found
     enum-told
-    refused-requires
+    no-chain-requires
     returns
     is-visited-requires
-    refused-requires-2
+    no-chain-requires-2
     returns-2
-    refused-requires-3
+    no-chain-requires-3
     returns-3
     judge-line-requires
     enum-told-2
-    refused-requires-4
+    no-chain-requires-4
     returns-4
     enum-known-size
-    refused-requires-5
+    no-chain-requires-5
     returns-5
     with-place-requires
     returns-6
     enum-known-size-2
-    refused-requires-6
+    no-chain-requires-6
     returns-7
     with-place-requires-2
     find-linked-requires

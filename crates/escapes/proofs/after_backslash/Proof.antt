@@ -42,7 +42,8 @@ enum-told c = search needs
 returns-2 : tie.Need-returns-2
 returns-2 c =
     let p = rw (c .before .before .before .before .b .given .1) at (c .before .before .before .before .before .before .field-byte .ensures) in
-    text-on _ _ _ _ _ (c .octal-escape .result) (rw (p .0) (Steps.decode-first _ _ (digit-is 8 (c .before .before .before .before .b .given .0 .0) (omega arith) (omega arith)))) (p .1) (p .3) refl (c .octal-escape .ensures)
+    let digit = digit-is 8 (c .before .before .before .before .b .given .0 .0) (omega arith) (omega arith) in
+    text-on _ _ _ _ _ (c .octal-escape .result) (rw (p .0) (Steps.decode-first _ _ digit)) (p .1) (p .3) refl (c .octal-escape .ensures)
 
 returns-3 : tie.Need-returns-3
 returns-3 c =

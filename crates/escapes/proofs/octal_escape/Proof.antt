@@ -30,13 +30,13 @@ enum-known-b : tie.Need-enum-known-b Inv-loop μ-loop
 enum-known-b c = search needs
 
 mul-v : tie.Need-mul-v Inv-loop μ-loop
-mul-v c = let small = escape-small _ _ _ (c .before .before .before .before .before .before .before .before .before .pre) _ _ _ (c .before .before .before .before .before .before .before .loop .inv) in omega arith
+mul-v c = let small = escape-small _ _ _ _ _ _ (c .before .before .before .before .before .before .before .loop .inv) in omega arith
 
 cast-v-2 : tie.Need-cast-v-2 Inv-loop μ-loop
 cast-v-2 c = search needs
 
 add-v : tie.Need-add-v Inv-loop μ-loop
-add-v c = let small = escape-small _ _ _ (c .before .before .before .before .before .before .before .before .before .pre) _ _ _ (c .before .before .before .before .before .before .before .loop .inv) in omega arith
+add-v c = let small = escape-small _ _ _ _ _ _ (c .before .before .before .before .before .before .before .loop .inv) in omega arith
 
 add-k : tie.Need-add-k Inv-loop μ-loop
 add-k c = search needs
@@ -47,17 +47,18 @@ loop-less c = omega arith
 loop-again : tie.Need-loop-again Inv-loop μ-loop
 loop-again c =
     let p = rw (c .before .before .before .b .given .1) at (c .before .before .before .before .before .field-byte .ensures) in
-    escape-more _ _ _ (c .before .before .before .before .before .before .before .before .before .pre) _ _ _ (c .before .before .before .before .before .before .before .loop .inv) _ _ (p .0) (omega arith) (p .1) (p .2) (p .3) (omega arith) (omega arith)
+    let inv = c .before .before .before .before .before .before .before .loop .inv in
+    escape-more _ _ _ _ _ _ inv _ _ (p .0) (omega arith) (p .1) (p .2) (p .3) (omega arith) (omega arith)
 
 returns : tie.Need-returns Inv-loop μ-loop
 returns c =
     let p = rw (c .before .before .b .given .1) at (c .before .before .before .before .field-byte .ensures) in
-    escape-other _ _ _ (c .before .before .before .before .before .before .before .before .pre) _ _ _ (c .before .before .before .before .before .before .loop .inv) _ _ (p .0) (omega arith) (λ w. omega arith)
+    escape-other _ _ _ _ _ _ (c .before .before .before .before .before .before .loop .inv) _ _ (p .0) (omega arith) (λ w. omega arith)
 
 returns-2 : tie.Need-returns-2 Inv-loop μ-loop
 returns-2 c =
     let p = rw (c .before .before .before .b .given .1) at (c .before .before .before .before .before .field-byte .ensures) in
-    escape-other _ _ _ (c .before .before .before .before .before .before .before .before .before .pre) _ _ _ (c .before .before .before .before .before .before .before .loop .inv) _ _ (p .0) (omega arith) (λ w. omega arith)
+    escape-other _ _ _ _ _ _ (c .before .before .before .before .before .before .before .loop .inv) _ _ (p .0) (omega arith) (λ w. omega arith)
 
 enum-told : tie.Need-enum-told Inv-loop μ-loop
 enum-told c = search needs
@@ -65,10 +66,10 @@ enum-told c = search needs
 returns-3 : tie.Need-returns-3 Inv-loop μ-loop
 returns-3 c =
     let p = rw (c .enum-told .given .1) at (c .before .before .field-byte .ensures) in
-    escape-end _ _ _ (c .before .before .before .before .before .before .pre) _ _ _ (c .before .before .before .before .loop .inv) p (omega arith)
+    escape-end _ _ _ _ _ _ (c .before .before .before .before .loop .inv) p (omega arith)
 
 returns-4 : tie.Need-returns-4 Inv-loop μ-loop
-returns-4 c = escape-large _ _ _ (c .before .before .before .before .pre) _ _ _ (c .before .before .loop .inv) (omega arith) (omega arith)
+returns-4 c = escape-large _ _ _ _ _ _ (c .before .before .loop .inv) (omega arith) (omega arith)
 
 cast-t9 : tie.Need-cast-t9 Inv-loop μ-loop
 cast-t9 c = search needs
@@ -77,7 +78,7 @@ add-t17 : tie.Need-add-t17 Inv-loop μ-loop
 add-t17 c = let few = c .before .before .loop .inv .few in omega arith
 
 returns-5 : tie.Need-returns-5 Inv-loop μ-loop
-returns-5 c = escape-byte _ _ _ (c .before .before .before .before .pre) _ _ _ (c .before .before .loop .inv) (omega arith) (omega arith)
+returns-5 c = escape-byte _ _ _ _ _ _ (c .before .before .loop .inv) (omega arith) (omega arith)
 
 pub octal-escape-spec : {M : Type 1} → statement M
 octal-escape-spec =

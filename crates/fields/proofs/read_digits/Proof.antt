@@ -4,7 +4,7 @@ use native.Mathlib.Omega.{arith}
 use Prim.Native.Nat.{_-_}
 use lib.ListN.{length}
 use Rattle.spec.proofs.DigitBytes.{digit-is, digit-not}
-use Rattle.fields.proofs.Numbers.{Counted, counted-none, counted-room, counted-long, counted-not, counted-on}
+use Rattle.fields.proofs.Numbers.{Counted, counted-none, counted-small, counted-long, counted-not, counted-on}
 use Rattle.fields.proofs.Numbers.{counted-empty, counted-large, counted-good}
 use borrow.Author.Needs.{needs}
 use Rattle.fields.proofs.read_digits.Statement.{statement}
@@ -33,7 +33,7 @@ returns c =
 
 mul-v : tie.Need-mul-v Inv-loop μ-loop
 mul-v c =
-    let room = counted-room _ _ _ _ _ _ (c .before .before .before .before .before .before .before .loop .inv) (omega arith) in
+    let small = counted-small _ _ _ _ _ _ (c .before .before .before .before .before .before .before .loop .inv) in
     omega arith
 
 wide-requires : tie.Need-wide-requires Inv-loop μ-loop
@@ -41,7 +41,7 @@ wide-requires c κs = search needs
 
 add-v : tie.Need-add-v Inv-loop μ-loop
 add-v c =
-    let room = counted-room _ _ _ _ _ _ (c .before .before .before .before .before .before .before .before .loop .inv) (omega arith) in
+    let small = counted-small _ _ _ _ _ _ (c .before .before .before .before .before .before .before .before .loop .inv) in
     omega arith
 
 add-k : tie.Need-add-k Inv-loop μ-loop
@@ -56,7 +56,8 @@ loop-again : tie.Need-loop-again Inv-loop μ-loop
 loop-again c =
     let p = rw (c .before .before .before .before .before .b .given .1) at (c .before .before .before .before .before .before .before .field-byte .ensures) in
     let inv = c .before .before .before .before .before .before .before .before .loop .inv in
-    rw (c .wide .ensures) (counted-on _ _ _ _ _ _ inv _ _ (p .0) (p .3) (digit-is 10 (c .before .before .before .before .before .b .given .0 .0) (omega arith) (omega arith)) (omega arith))
+    let digit = digit-is 10 (c .before .before .before .before .before .b .given .0 .0) (omega arith) (omega arith) in
+    rw (c .wide .ensures) (counted-on _ _ _ _ _ _ inv _ _ (p .0) (p .3) digit (omega arith))
 
 returns-2 : tie.Need-returns-2 Inv-loop μ-loop
 returns-2 c =

@@ -1,4 +1,6 @@
 -- `listing::flat` meets its contract, by how the walk ended. Assumes nothing.
+use mathlib.Core.Path.{ap}
+use Rattle.spec.specs.Answers.{writtenReport}
 use Rattle.spec.specs.Listing.{flatOutcome, flatFor}
 use Rattle.spec.proofs.ListingBounds.{accepted-bounded}
 use Rattle.listing.proofs.Delivering.{flat-none}
@@ -24,7 +26,8 @@ returns : tie.Need-returns
 unfolding flatOutcome flatFor
 returns c =
     let w = rw (c .before .ended .given .1) at (c .before .before .before .resolve .ensures) in
-    flat-none _ (c .before .before .before .before .before .before .before .args .out .now) _ w
+    let e = flat-none _ (c .before .before .before .before .before .before .before .args .out .now) _ (w .0) in
+    (e .0, e .1, ap writtenReport (e .0))
 
 same-length : tie.Need-same-length
 same-length c = search needs
@@ -33,7 +36,8 @@ returns-2 : tie.Need-returns-2
 unfolding flatOutcome flatFor
 returns-2 c =
     let w = rw (c .before .before .before .before .enum-told .given .1) at (c .before .before .before .before .before .before .resolve .ensures) in
-    rw (w .0) (c .before .before .write-flat .ensures)
+    let e = c .before .before .write-flat .ensures in
+    rw (w .0) (e .0, e .1, ap writtenReport (e .0))
 
 pub flat-spec : {M : Type 1} → statement M
 flat-spec =

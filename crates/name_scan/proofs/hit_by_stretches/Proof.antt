@@ -82,7 +82,7 @@ same-length-4 : tie.Need-same-length-4 Inv-loop μ-loop
 same-length-4 c = omega (arith, c .before .before .loop .inv .1, c .before .before .before .before .before .before .before .before .pre .1 .1 .1)
 
 returns-2 : tie.Need-returns-2 Inv-loop μ-loop
-returns-2 c = passed-join (c .before .before .loop .inv .4) (c .hit-by-parts .ensures (omega arith))
+returns-2 c = passed-join (c .before .before .loop .inv .4) (c .hit-by-parts .ensures .0 (omega arith))
 
 pub hit-by-stretches-spec : {M : Type 1} → statement M
 hit-by-stretches-spec =

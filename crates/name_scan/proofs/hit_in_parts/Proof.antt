@@ -40,7 +40,7 @@ hit-in-part-requires c κs = tt
 sub-if1 : tie.Need-sub-if1 Inv-loop μ-loop
 sub-if1 c =
     let w = c .before .before .before .before .before .before .before .pre .1 .1 .1 .1 .below (c .before .before .before .loop .c) (omega arith) in
-    let p = c .hit-in-part .ensures (omega arith) (omega arith) .1 .from in
+    let p = c .hit-in-part .ensures .0 (omega arith) (omega arith) .1 .from in
     omega arith
 
 returns : tie.Need-returns Inv-loop μ-loop
@@ -49,7 +49,7 @@ returns c =
     let x = start .pre .1 .1 .1 .1 in
     let l = c .before .before .before .before .loop in
     let w = x .below (l .c) (omega arith) in
-    let p = c .before .hit-in-part .ensures (omega arith) (omega arith) in
+    let p = c .before .hit-in-part .ensures .0 (omega arith) (omega arith) in
     (omega arith, passed-join (record { from = omega arith; inside = omega arith; settled = settled-before _ _ (start .args .at) _ _ _ x (l .c) (omega arith) (l .inv .1) }) (p .1))
 
 add-c : tie.Need-add-c Inv-loop μ-loop
@@ -61,7 +61,7 @@ loop-less c = omega arith
 loop-again : tie.Need-loop-again Inv-loop μ-loop
 loop-again c =
     let w = c .before .before .before .before .before .before .before .before .pre .1 .1 .1 .1 .below (c .before .before .before .before .loop .c) (omega arith) in
-    let p = c .before .hit-in-part .ensures (omega arith) (omega arith) .1 in
+    let p = c .before .hit-in-part .ensures .0 (omega arith) (omega arith) .1 in
     let q = p .from in
     (omega arith, below-more _ _ (c .before .before .before .before .loop .inv .1) (each-to _ (p .settled) (omega arith)))
 

@@ -32,17 +32,17 @@ next-hit-requires c κs = search needs
 
 sub-if4 : tie.Need-sub-if4
 sub-if4 c =
-    let p = c .before .before .before .before .next-hit .ensures (omega arith) (omega arith) in
+    let p = c .before .before .before .before .next-hit .ensures .0 (omega arith) (omega arith) in
     omega (arith, p .inside)
 
 add-line-of : tie.Need-add-line-of
 add-line-of c =
-    let p = c .before .before .before .before .before .next-hit .ensures (omega arith) (omega arith) in
+    let p = c .before .before .before .before .before .next-hit .ensures .0 (omega arith) (omega arith) in
     omega (arith, p .inside)
 
 line-of-requires : tie.Need-line-of-requires
 line-of-requires c κs =
-    let p = c .before .before .before .before .before .next-hit .ensures (omega arith) (omega arith) in
+    let p = c .before .before .before .before .before .next-hit .ensures .0 (omega arith) (omega arith) in
     (omega (arith, p .from), (omega arith, c .before .before .before .before .before .before .before .before .before .before .before .before .before .before .before .pre .1 (omega arith)))
 
 same-length : tie.Need-same-length
@@ -53,7 +53,7 @@ same-length-2 c = search needs
 
 returns-4 : tie.Need-returns-4
 returns-4 c =
-    let p = c .before .before .before .before .before .before .next-hit .ensures (omega arith) (omega arith) in
+    let p = c .before .before .before .before .before .before .next-hit .ensures .0 (omega arith) (omega arith) in
     passed-line (omega arith) (c .before .before .before .before .before .before .before .before .before .before .before .before .before .before .before .before .pre .1 (omega arith)) (p .settled) _ (omega arith) (c .line-of .ensures)
 
 same-length-3 : tie.Need-same-length-3
@@ -64,7 +64,7 @@ same-length-4 c = search needs
 
 returns-5 : tie.Need-returns-5
 returns-5 c =
-    let p = c .before .before .before .before .before .next-hit .ensures (omega arith) (omega arith) in
+    let p = c .before .before .before .before .before .next-hit .ensures .0 (omega arith) (omega arith) in
     passed-all (omega arith) (c .before .before .before .before .before .before .before .before .before .before .before .before .before .before .before .pre .1 (omega arith)) (p .settled) (omega arith) (omega (arith, p .inside))
 
 pub next-candidate-spec : {M : Type 1} → statement M

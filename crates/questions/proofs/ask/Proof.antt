@@ -54,7 +54,7 @@ returns-3 : tie.Need-returns-3
 returns-3 c =
     let w = rw (c .before .ended .given .1) at (c .before .before .before .resolve .ensures) in
     let i = sym (c .before .before .before .before .before .is-good-id .ensures) ∙ not-false _ (c .before .before .before .before .if1 .left) in
-    asked-good _ _ _ i ∙ w
+    asked-good _ _ _ i ∙ w .0
 
 returns-4 : tie.Need-returns-4
 returns-4 c =

@@ -1,5 +1,7 @@
 -- `questions::string` meets its contract, by what the question comes to. Assumes nothing.
+use mathlib.Core.Path.{ap}
 use native.Mathlib.Omega.{arith}
+use Rattle.spec.specs.Answers.{answerReport}
 use Rattle.spec.specs.Questions.{stringOutcome}
 use Rattle.lookup.proofs.ReadParts.{rest-read}
 use Rattle.questions.proofs.ReadFields.{read-small, read-nothing}
@@ -53,7 +55,7 @@ returns c =
     let q = rw (c .before .r .given .1) at (c .before .before .before .ask .ensures) in
     let a = c .before .before .before .before .before .before .before .before .args in
     let e = string-refused (a .id .now) _ (a .out .now) _ q in
-    (rw e, rw e)
+    (rw e, rw e, rw e)
 
 returns-2 : tie.Need-returns-2
 unfolding stringOutcome
@@ -61,7 +63,7 @@ returns-2 c =
     let q = rw (c .enum-told .given .1) at (c .before .before .ask .ensures) in
     let a = c .before .before .before .before .before .before .before .args in
     let e = string-absent (a .id .now) _ (a .out .now) _ _ (q .2) (q .3) in
-    (rw e, rw e)
+    (rw e, rw e, rw e)
 
 same-length : tie.Need-same-length
 same-length c = search needs
@@ -75,7 +77,8 @@ returns-3 c =
     let from = f .from .given .0 .0 in
     let p = rw (c .before .before .before .before .before .before .read .given .1) at (rest-read (a .db .now) from _ (f .from .given .0 .1 .0) (q .3 .2)) in
     let e = string-present (a .id .now) _ (a .out .now) _ _ (q .2) _ (q .3 .1) in
-    rw e (string-written _ _ _ _ _ _ _ _ _ p (c .before .before .write-text .ensures))
+    let w = string-written _ _ _ _ _ _ _ _ _ p (c .before .before .write-text .ensures) in
+    rw e (w .0, w .1, ap answerReport (w .0))
 
 returns-4 : tie.Need-returns-4
 unfolding stringOutcome
@@ -83,7 +86,8 @@ returns-4 c =
     let q = rw (c .before .before .from .given .1) at (c .before .before .before .before .ask .ensures) in
     let a = c .before .before .before .before .before .before .before .before .before .args in
     let e = string-present (a .id .now) _ (a .out .now) _ _ (q .2) _ (q .3 .1) in
-    rw e (none-written _ _ (read-nothing _ _ (c .before .before .from .given .0 .1 .0) (q .3 .2) (c .match2 .keys2)))
+    let w = none-written _ _ (read-nothing _ _ (c .before .before .from .given .0 .1 .0) (q .3 .2) (c .match2 .keys2)) in
+    rw e (w .0, w .1, ap answerReport (w .0))
 
 pub string-spec : {M : Type 1} → statement M
 string-spec =

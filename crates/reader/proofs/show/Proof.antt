@@ -47,9 +47,7 @@ use denote.Triple.Walked.{says, Stays, stay-none, stay-none-slice, gave-ref, wal
 use denote.Triple.Walked.{walk-meets}
 use denote.Exit.{yes}
 use denote.Triple.Clauses.{ensured, lasts}
-use Rattle.spec.specs.Answers.{shownOnPaper}
-use Rattle.spec.specs.Questions.{showAnswer}
-use Rattle.show.specs.Answers.{shownBytes}
+use Rattle.spec.specs.Questions.{showAnswer, showReport, OwnPart}
 use Rattle.reader.specs.declared.Reader.{Reader}
 use Rattle.reader.proofs.Reader as T
 use Rattle.reader.proofs.Reader.Laws as T′
@@ -101,7 +99,7 @@ module _ {M : Type 1} (𝓤 : URA M) (H : Heap 𝓤) (A : Atoms 𝓤) (W : Given
 
   -- what is shown of the part handed back and of refusal's last value
   abbrev Is-shown : RefT (List ℕ) → ℕ → Type 0
-  Is-shown r n = (now r ≡ shownBytes (now (d .db)) (showAnswer (now (d .db)) (now s))) × (n ≡ shownOnPaper (showAnswer (now (d .db)) (now s)) .refusal)
+  Is-shown r n = OwnPart (d .db) (showAnswer (now (d .db)) (now s)) r × (n ≡ showReport (now (d .db)) (now s) .refusal)
 
   abbrev vals : Vals show.signature κs
   vals = (mach ∷ [], (w ∷ [], (m ∷ [], tt)))

@@ -1,6 +1,7 @@
 -- `sending::send` meets its contract: a refusal by the inputs or the prefix, or the body and its pads. Assumes nothing.
 use borrow.Author.Needs.{needs}
-use mathlib.Core.Path.{sym, _∙_}
+use mathlib.Core.Path.{sym, _∙_, ap}
+use Rattle.spec.specs.Answers.{writtenReport}
 use Rattle.spec.specs.Sending.{sendOutcome}
 use Rattle.sending.proofs.Inputs.{speed-in-range}
 use Rattle.sending.proofs.Outgoing.{send-refused, send-body}
@@ -22,7 +23,8 @@ unfolding sendOutcome
 returns c =
     let a = c .before .before .before .before .before .before .before .args in
     let j = rw (c .before .before .before .before .good-speed .ensures, c .before .judged .given .1) at (c .before .before .before .judge .ensures) in
-    stopped _ _ (a .out .now) (send-refused (a .command .now) (a .lines) (a .speed) (a .pad) _ j)
+    let e = stopped _ _ (a .out .now) (send-refused (a .command .now) (a .lines) (a .speed) (a .pad) _ j) in
+    (e .0, e .1, ap writtenReport (e .0))
 
 enum-known-judged-2 : tie.Need-enum-known-judged-2
 enum-known-judged-2 c = search needs
@@ -53,7 +55,8 @@ returns-2 c =
       c .before .before .before .before .before .before .judged2 .given .1,
     ) at
     (c .before .before .before .before .before .before .before .before .judge .ensures) in
-    rw (send-body (a .command .now) (a .lines) (a .speed) (a .pad) _ _ j) (c .before .before .send-copied .ensures)
+    let e = c .before .before .send-copied .ensures in
+    rw (send-body (a .command .now) (a .lines) (a .speed) (a .pad) _ _ j) (e .0, e .1, ap writtenReport (e .0))
 
 pub send-spec : {M : Type 1} → statement M
 send-spec =

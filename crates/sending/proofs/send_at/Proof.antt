@@ -1,5 +1,6 @@
 -- `sending::send_at` meets its contract: a refusal by the inputs or the prefix, or the body filled in, and its pads. Assumes nothing.
-use mathlib.Core.Path.{sym, _∙_}
+use mathlib.Core.Path.{sym, _∙_, ap}
+use Rattle.spec.specs.Answers.{writtenReport}
 use Rattle.spec.specs.Sending.{goodSpeed, goodPlace, sendAtOutcome}
 use Rattle.spec.specs.Choice.{both}
 use Rattle.spec.proofs.Tests.{both-true}
@@ -36,7 +37,9 @@ returns c =
     let told = inputs-held (a .row) (a .column) _ _ (c .before .before .before .before .before .before .held-for .ensures)
     (c .before .before .before .before .before .held-for2 .ensures) (a .lines) (a .speed) _ (c .before .before .before .before .good-inputs .ensures) in
     let j = rw (told, c .before .judged .given .1) at (c .before .before .before .judge .ensures) in
-    stopped _ _ (a .out .now) (send-at-refused (a .command .now) (a .lines) (a .speed) (a .pad) (a .row) (a .column) (a .back .now) (a .up .now) _ j)
+    let e = stopped _ _ (a .out .now)
+    (send-at-refused (a .command .now) (a .lines) (a .speed) (a .pad) (a .row) (a .column) (a .back .now) (a .up .now) _ j) in
+    (e .0, e .1, ap writtenReport (e .0))
 
 enum-known-judged-2 : tie.Need-enum-known-judged-2
 enum-known-judged-2 c = search needs
@@ -72,11 +75,12 @@ returns-2 c =
     let filled = filled-held (a .row) (a .column) _ _
     (c .before .before .before .before .before .before .before .before .before .before .before .held-for .ensures)
     (c .before .before .before .before .before .before .before .before .before .before .held-for2 .ensures) in
+    let e = c .before .before .send-filled .ensures in
     rw (
       send-at-body (a .command .now) (a .lines) (a .speed) (a .pad) (a .row) (a .column) (a .back .now) (a .up .now) _ _ j,
       ← filled _ (a .back .now)
           (a .up .now) (place .0) (place .1),
-    ) (c .before .before .send-filled .ensures)
+    ) (e .0, e .1, ap writtenReport (e .0))
 
 pub send-at-spec : {M : Type 1} → statement M
 send-at-spec =

@@ -1,5 +1,5 @@
 -- `show::show` meets its contract: the part has the ends that `show_part` gives. Assumes nothing.
-use mathlib.Core.Path.{sym}
+use mathlib.Core.Path.{sym, refl}
 use native.Mathlib.Omega.{arith}
 use Rattle.show.proofs.ShownParts.{show-inside}
 use borrow.Author.Needs.{needs}
@@ -29,28 +29,28 @@ enum-known-from c = search needs
 
 sub-result-2 : tie.Need-sub-result-2
 sub-result-2 c =
-    let e = rw (c .before .from .given .1) at (c .before .before .before .show-part .ensures) in
+    let e = rw (c .before .from .given .1) at (c .before .before .before .show-part .ensures .0) in
     omega (arith, show-inside _ _ _ _ (sym e))
 
 part-result-start-2 : tie.Need-part-result-start-2
 part-result-start-2 c =
-    let e = rw (c .before .from .given .1) at (c .before .before .before .show-part .ensures) in
+    let e = rw (c .before .from .given .1) at (c .before .before .before .show-part .ensures .0) in
     omega (arith, show-inside _ _ _ _ (sym e))
 
 part-result-end-2 : tie.Need-part-result-end-2
 part-result-end-2 c =
-    let e = rw (c .before .from .given .1) at (c .before .before .before .show-part .ensures) in
+    let e = rw (c .before .from .given .1) at (c .before .before .before .show-part .ensures .0) in
     omega (arith, show-inside _ _ _ _ (sym e))
 
 returns : tie.Need-returns
 returns c =
-    let e = rw (c .before .before .before .r .given .1) at (c .before .before .before .before .before .show-part .ensures) in
-    (rw (← e), rw (← e) (c .before .number .ensures))
+    let e = rw (c .before .before .before .r .given .1) at (c .before .before .before .before .before .show-part .ensures .0) in
+    ((refl, rw (← e) (omega arith), rw (← e)), rw (← e) (c .before .number .ensures))
 
 returns-2 : tie.Need-returns-2
 returns-2 c =
-    let e = rw (c .before .before .from .given .1) at (c .before .before .before .before .show-part .ensures) in
-    (rw (← e), rw (← e))
+    let e = rw (c .before .before .from .given .1) at (c .before .before .before .before .show-part .ensures .0) in
+    ((refl, rw (← e) (omega arith), rw (← e)), rw (← e))
 
 pub show-spec : {M : Type 1} → statement M
 show-spec =

@@ -10,7 +10,7 @@ give-answer-requires : tie.Need-give-answer-requires
 give-answer-requires c κs = search needs
 
 returns : tie.Need-returns
-returns c = rw (← c .before .before .flag .ensures) (c .give-answer .ensures)
+returns c = rw (← c .before .before .flag .ensures .0) (c .give-answer .ensures)
 
 pub termcap-flag-spec : {M : Type 1} → statement M
 termcap-flag-spec = tie.close (tie.spec flag-requires give-answer-requires returns)

@@ -10,7 +10,7 @@ give-answer-requires : tie.Need-give-answer-requires
 give-answer-requires c κs = search needs
 
 returns : tie.Need-returns
-returns c = rw (← c .before .before .number .ensures) (c .give-answer .ensures)
+returns c = rw (← c .before .before .number .ensures .0) (c .give-answer .ensures)
 
 pub termcap-number-spec : {M : Type 1} → statement M
 termcap-number-spec = tie.close (tie.spec number-requires give-answer-requires returns)

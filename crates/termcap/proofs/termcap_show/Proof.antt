@@ -1,7 +1,8 @@
 -- `termcap::termcap_show` meets its contract: the ends of the part that is shown, as start and length. Assumes nothing.
-use mathlib.Core.Path.{sym}
+use mathlib.Core.Path.{sym, _∙_}
 use native.Mathlib.Omega.{arith}
 use Rattle.show.proofs.ShownParts.{show-inside}
+use Rattle.termcap.proofs.RefusalResults.{refused-result}
 use borrow.Author.Needs.{needs}
 use Rattle.termcap.proofs.termcap_show.Statement.{statement}
 use Rattle.termcap.proofs.termcap_show.Tie as tie
@@ -14,7 +15,7 @@ enum-known-from c = search needs
 
 sub-length : tie.Need-sub-length
 sub-length c =
-    let e = rw (c .before .from .given .1) at (c .before .before .before .show-part .ensures) in
+    let e = rw (c .before .from .given .1) at (c .before .before .before .show-part .ensures .0) in
     omega (arith, show-inside _ _ _ _ (sym e))
 
 enum-known-r : tie.Need-enum-known-r
@@ -28,13 +29,13 @@ cast-result c = search needs
 
 returns : tie.Need-returns
 returns c =
-    let e = rw (c .before .from .given .1) at (c .before .before .before .show-part .ensures) in
+    let e = rw (c .before .from .given .1) at (c .before .before .before .show-part .ensures .0) in
     (rw (← e), rw (← e), rw (← e))
 
 returns-2 : tie.Need-returns-2
 returns-2 c =
-    let e = rw (c .before .before .r .given .1) at (c .before .before .before .before .show-part .ensures) in
-    (rw (← e) (c .number .ensures), rw (← e), rw (← e))
+    let e = rw (c .before .before .r .given .1) at (c .before .before .before .before .show-part .ensures .0) in
+    (rw (← e) (c .number .ensures ∙ refused-result (c .before .before .r .given .0 .0)), rw (← e), rw (← e))
 
 pub termcap-show-spec : {M : Type 1} → statement M
 termcap-show-spec =

@@ -1,5 +1,5 @@
 -- `terminal::resolve` meets its contract, test by test. Assumes nothing.
-use mathlib.Core.Path.{_∙_, sym}
+use mathlib.Core.Path.{refl, _∙_, sym}
 use native.Mathlib.Omega.{arith}
 use borrow.Author.Tests.{not-true, not-false}
 use Rattle.terminal.proofs.Terminals.{terminal-bad, terminal-large, walked-resolved}
@@ -14,7 +14,7 @@ no-chain-requires : tie.Need-no-chain-requires
 no-chain-requires c κs = search needs
 
 returns : tie.Need-returns
-returns c = rw (c .no-chain .ensures) (terminal-bad _ _ (sym (c .before .before .is-good-name .ensures) ∙ not-true _ (c .before .if1 .taken)))
+returns c = rw (c .no-chain .ensures) (terminal-bad _ _ (sym (c .before .before .is-good-name .ensures) ∙ not-true _ (c .before .if1 .taken)), refl)
 
 no-chain-requires-2 : tie.Need-no-chain-requires-2
 no-chain-requires-2 c κs = search needs
@@ -22,7 +22,7 @@ no-chain-requires-2 c κs = search needs
 returns-2 : tie.Need-returns-2
 returns-2 c =
     let g = sym (c .before .before .before .is-good-name .ensures) ∙ not-false _ (c .before .before .if1 .left) in
-    rw (c .no-chain2 .ensures) (terminal-large _ _ g (c .before .if2 .taken))
+    rw (c .no-chain2 .ensures) (terminal-large _ _ g (c .before .if2 .taken), refl)
 
 follow-links-requires : tie.Need-follow-links-requires
 follow-links-requires c κs = search needs
