@@ -75,7 +75,7 @@ extern "C" {
  * termcap_string; of termcap_list and termcap_flat; of termcap_send and termcap_send_at. */
 #define TERMCAP_STACK_SHOW 5120u
 #define TERMCAP_STACK_QUESTION 7168u
-#define TERMCAP_STACK_LIST 37888u
+#define TERMCAP_STACK_LIST 11264u
 #define TERMCAP_STACK_SEND 4096u
 
 /* The kinds in a record. */

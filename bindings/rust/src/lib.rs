@@ -39,7 +39,7 @@
 //! |---|---|
 //! | [`Database::show`] | 5,120 |
 //! | [`Database::flag`], [`Database::number`], [`Database::string`] | 7,168 |
-//! | [`Database::list`], [`Database::flat`] | 37,888 |
+//! | [`Database::list`], [`Database::flat`] | 11,264 |
 //! | [`send`], [`send_at`] | 4,096 |
 
 #![deny(missing_docs)]
