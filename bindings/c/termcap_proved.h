@@ -66,7 +66,8 @@ extern "C" {
 
 /* Bytes of one record of termcap_list. */
 #define TERMCAP_RECORD_BYTES 8u
-/* With buffers of these sizes termcap_list, termcap_flat and termcap_string never give 9. */
+/* With buffers of these sizes termcap_list, termcap_flat and termcap_string never give 9. This is
+ * proved (crates/demands/specs/Room.antt). */
 #define TERMCAP_LIST_BYTES 43680u
 #define TERMCAP_FLAT_BYTES 16385u
 #define TERMCAP_STRING_BYTES 16384u

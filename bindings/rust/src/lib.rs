@@ -54,7 +54,7 @@ pub use record::{Kind, Record};
 pub use refusal::{NotARefusal, Refusal};
 
 /// The most bytes a decoded string has: it is no longer than its field, and a chain's size is at
-/// most 16,384.
+/// most 16,384. This and the next three are proved (`crates/demands/specs/Room.antt`).
 pub const STRING_BYTES: usize = 16_384;
 /// The most records a terminal has: flags, three bytes each with the colon, in a chain of 16,384.
 pub const RECORDS: usize = 5_460;

@@ -1,5 +1,6 @@
-pub mod Limits
 pub mod Demand1
 pub mod Padding
 pub mod Winning
 pub mod Demand3
+pub mod Limits
+pub mod Room

@@ -1,0 +1,280 @@
+-- Lent buffers of the stated sizes are never too small, and no command asks for more pads than stated. Assumes nothing.
+use Prim.Native.Nat.{ℕ, zero, suc, _+_, _*_, _/_, _≤_, _<_}
+use mathlib.Core.Path.{_≡_, refl, sym, ap, subst, _∙_}
+use mathlib.Core.Bool.{Bool, true, false}
+use mathlib.Core.List.{List, [], _∷_, _++_}
+use native.Mathlib.Nat.{mul-le-mul}
+use native.Mathlib.Omega.{arith}
+use borrow.Author.Tests.{le-leb}
+use lib.Dec.{eqb, leb, ltb}
+use lib.ListN.{length}
+use Rattle.spec.specs.Choice.{pick, both, either}
+use Rattle.spec.specs.Lines.{blank, findLine, lineAt}
+use Rattle.spec.specs.Refusals.{refusalNumber, goodName, goodId, tooLarge, idBytes, isTc}
+use Rattle.spec.specs.Strings.{Decoded, bad, good, plain, decode}
+use Rattle.spec.specs.Fields.{
+  Content,
+  cancel,
+  flag,
+  number,
+  string,
+  Reading,
+  malformed,
+  ignored,
+  link,
+  capability,
+  contentBytes,
+  goodNumber,
+  stringReading,
+  contentReading,
+  linkReading,
+  namedReading,
+  reading,
+  size,
+  lineSize,
+  Verdict,
+  malformedLine,
+  noLink,
+  linkTo,
+  verdict,
+}
+use Rattle.spec.specs.Chain.{
+  Chain,
+  broken,
+  chain,
+  visited,
+  linkTarget,
+  entered,
+  follow,
+  walk,
+  Field,
+  texts,
+  Terminal,
+  refused,
+  terminal,
+  described,
+  resolve,
+}
+use Rattle.spec.specs.Lookup.{Hit, none, hit, matches, lookup, winning, bytesOf}
+use Rattle.spec.specs.Padding.{Prefix, Split, split, prefixOf, delayFor, padCount}
+use Rattle.spec.specs.Answers.{Outcome, keeping, put}
+use Rattle.spec.specs.Questions.{terminalOf, terminalFor, presented, decodedOutcome, stringFor, stringOutcome}
+use Rattle.spec.specs.Listing.{records, listFor, listOutcome, flatText, flatFor, flatOutcome}
+use Rattle.spec.specs.declared.Found.{Found}
+use Rattle.spec.specs.declared.Found.the-variants.{At, Nothing}
+use Rattle.spec.specs.declared.Refusal.{Refusal}
+use Rattle.spec.specs.declared.Refusal.the-variants.{BadName, BadId, DatabaseTooLarge, UnknownName, LostLink, Malformed, Cycle, ChainTooLarge, NoRoom}
+use Rattle.spec.specs.declared.Answer.{Answer}
+use Rattle.spec.specs.declared.Answer.the-variants.{Present, Absent, Refused as NotAnswered}
+use Rattle.spec.specs.declared.Written.{Written}
+use Rattle.spec.specs.declared.Written.the-variants.{Count, Refused}
+use Rattle.spec.proofs.Tests.{pick-all}
+use Rattle.spec.proofs.Readings.{decode-short}
+use Rattle.spec.proofs.FlatAlone.{sound}
+use Rattle.spec.proofs.ListingBounds.{accepted-bounded}
+use Rattle.spec.proofs.PaddingLaws.{Splits, delay-below}
+use Rattle.demands.specs.Demand3.{HasRoom, QuestionHasRoom}
+use Rattle.demands.specs.Room.{EnoughRoom}
+
+-- ---- the refusals of a terminal are 1 to 8
+
+abbrev Early : Chain → Type 0
+Early (broken r) = refusalNumber r ≤ 8
+Early (chain ps) = Unit {0}
+
+entered-early : (places : List ℕ) (v : Verdict) (big : Bool) (more : Chain) → Early more → Early (entered places v big more)
+unfolding entered
+entered-early places malformedLine big more h = omega arith
+entered-early places noLink big more h = pick-all Early big (omega arith) tt
+entered-early places (linkTo name) big more h = pick-all Early big (omega arith) h
+
+follow-early : (db : List ℕ) (n : ℕ) (passed : List ℕ) (size : ℕ) (missing : Refusal) (found : Found) → refusalNumber missing ≤ 8
+    → Early (follow db n passed size missing found)
+unfolding follow
+follow-early db zero passed size missing Nothing h = h
+follow-early db zero passed size missing (At p) h = pick-all Early (visited p passed) (omega arith) (omega arith)
+follow-early db (suc n) passed size missing Nothing h = h
+follow-early db (suc n) passed size missing (At p) h =
+    let total = size + lineSize (lineAt db p) in
+    let said = verdict (lineAt db p) in
+    pick-all Early (visited p passed) (omega arith)
+    (entered-early (passed ++ p ∷ []) said (ltb 16384 total) _
+    (follow-early db n (passed ++ p ∷ []) total LostLink (linkTarget db p said) (omega arith)))
+
+abbrev EarlyTerminal : Terminal → Type 0
+EarlyTerminal (refused r) = refusalNumber r ≤ 8
+EarlyTerminal (terminal names fs) = Unit {0}
+
+described-early : (db : List ℕ) (c : Chain) → Early c → EarlyTerminal (described db c)
+unfolding described
+described-early db (broken r) h = h
+described-early db (chain ps) h = tt
+
+terminal-early : (db name : List ℕ) → EarlyTerminal (terminalOf db name)
+unfolding terminalOf resolve walk
+terminal-early db name =
+    pick-all EarlyTerminal (goodName name)
+    (pick-all EarlyTerminal (tooLarge db) (omega arith)
+    (described-early db (follow db 32 [] 0 UnknownName (findLine db name)) (follow-early db 32 [] 0 UnknownName (findLine db name) (omega arith))))
+    (omega arith)
+
+asked-early : (db name id : List ℕ) → EarlyTerminal (terminalFor db name id)
+unfolding terminalFor
+asked-early db name id = pick-all EarlyTerminal (goodName name) (pick-all EarlyTerminal (goodId id) (terminal-early db name) (omega arith)) (omega arith)
+
+early-room : (r : Refusal) → refusalNumber r ≤ 8 → r ≡ NoRoom → ⊥
+early-room r h e = omega (arith, h, ap refusalNumber e)
+
+-- ---- what fits is written
+
+put-fits : (bytes : List ℕ) (n : ℕ) (buffer : List ℕ) → length bytes ≤ length buffer → put bytes n buffer .answer ≡ Count n
+unfolding put
+put-fits bytes n buffer h = rw (le-leb (length bytes) (length buffer) h)
+
+count-room : (w : Written) (n : ℕ) → w ≡ Count n → HasRoom w
+count-room w n e h = let z : _≡_ {A = ℕ} 0 1 = let f : Count n ≡ Refused NoRoom = sym e ∙ h in cc in omega arith
+
+refused-room : (r : Refusal) → refusalNumber r ≤ 8 → HasRoom (Refused r)
+refused-room r h e = early-room r h (let f : r ≡ NoRoom = cc in f)
+
+list-room : (db name buffer : List ℕ) → 43680 ≤ length buffer → HasRoom (listOutcome db name buffer .answer)
+unfolding listOutcome listFor
+list-room db name buffer h = go (terminalOf db name) refl (terminal-early db name)
+  where
+    go : (t : Terminal) → terminalOf db name ≡ t → EarlyTerminal t → HasRoom (listFor t buffer .answer)
+    go (refused r) e k = refused-room r k
+    go (terminal names fs) e k =
+        let b = accepted-bounded db name names fs e in
+        count-room _ _ (put-fits (records (winning fs)) (length (winning fs)) buffer (omega (arith, b .record-bytes, h)))
+
+flat-room : (db name buffer : List ℕ) → 16385 ≤ length buffer → HasRoom (flatOutcome db name buffer .answer)
+unfolding flatOutcome flatFor
+flat-room db name buffer h = go (terminalOf db name) refl (terminal-early db name)
+  where
+    go : (t : Terminal) → terminalOf db name ≡ t → EarlyTerminal t → HasRoom (flatFor t buffer .answer)
+    go (refused r) e k = refused-room r k
+    go (terminal names fs) e k =
+        let b = accepted-bounded db name names fs e in
+        count-room _ _ (put-fits (flatText names fs) (length (flatText names fs)) buffer (omega (arith, b .flat-bytes, h)))
+
+-- ---- a decoded string is no longer than its field
+
+abbrev Fits : ℕ → Reading → Type 0
+Fits n r = (a b : ℕ) (l : List ℕ) → r ≡ capability a b (string l) → length l ≤ n
+
+fits-on : (n m : ℕ) (r : Reading) → n ≤ m → Fits n r → Fits m r
+fits-on n m r h f a b l e = omega (arith, h, f a b l e)
+
+fits-malformed : (n : ℕ) → Fits n malformed
+fits-malformed n a b l e = let z : _≡_ {A = ℕ} 0 1 = cc in absurd (omega arith)
+
+fits-other : (n x y : ℕ) (s : Content) → contentBytes s ≡ [] → Fits n (capability x y s)
+fits-other n x y s h a b l e =
+    let same : s ≡ string l = cc in
+    let none : l ≡ [] = ap contentBytes (sym same) ∙ h in
+    rw none (omega arith)
+
+text-fits : (x y n : ℕ) (o : Decoded) → ((l : List ℕ) → o ≡ good l → length l ≤ n) → Fits n (stringReading x y o)
+unfolding stringReading
+text-fits x y n bad h = fits-malformed n
+text-fits x y n (good d) h = λ a b l e. let same : d ≡ l = cc in h l (ap good same)
+
+content-fits : (x y : ℕ) (l : List ℕ) → Fits (length l) (contentReading x y l)
+unfolding contentReading
+content-fits x y [] = fits-other 0 x y flag refl
+content-fits x y (c ∷ l) =
+    pick-all (Fits n) (eqb c 35) (pick-all (Fits n) (goodNumber l) (fits-other n x y (number _) refl) (fits-malformed n))
+    (pick-all (Fits n) (eqb c 61) (text-fits x y n (decode plain l) (λ d e. omega (arith, decode-short plain l d e)))
+    (pick-all (Fits n) (eqb c 64) (pick-all (Fits n) (eqb (length l) 0) (fits-other n x y cancel refl) (fits-malformed n)) (fits-malformed n)))
+  where
+    n : ℕ
+    n = suc (length l)
+
+link-fits : (n : ℕ) (l : List ℕ) → Fits n (linkReading l)
+unfolding linkReading
+link-fits n [] = fits-malformed n
+link-fits n (c ∷ l) = pick-all (Fits n) (both (eqb c 61) (goodName l)) (λ a b d e. let z : _≡_ {A = ℕ} 0 1 = cc in absurd (omega arith)) (fits-malformed n)
+
+named-fits : (x : ℕ) (l : List ℕ) → Fits (length (x ∷ l)) (namedReading x l)
+unfolding namedReading
+named-fits x [] = fits-malformed 1
+named-fits x (y ∷ l) =
+    pick-all (Fits n) (isTc x y) (link-fits n l)
+    (pick-all (Fits n) (idBytes x y) (fits-on (length l) n (contentReading x y l) (omega arith) (content-fits x y l)) (fits-malformed n))
+  where
+    n : ℕ
+    n = length (x ∷ y ∷ l)
+
+reading-fits : (t : List ℕ) → Fits (length t) (reading t)
+unfolding reading
+reading-fits [] = λ a b l e. let z : _≡_ {A = ℕ} 0 1 = cc in absurd (omega arith)
+reading-fits (x ∷ l) =
+    pick-all (Fits (length (x ∷ l))) (either (blank (x ∷ l)) (eqb x 46)) (λ a b d e. let z : _≡_ {A = ℕ} 0 1 = cc in absurd (omega arith)) (named-fits x l)
+
+bytes-short : (t : List ℕ) → length (bytesOf (reading t)) ≤ length t
+unfolding bytesOf
+bytes-short t = go (reading t) refl
+  where
+    go : (r : Reading) → reading t ≡ r → length (bytesOf r) ≤ length t
+    go malformed e = omega arith
+    go ignored e = omega arith
+    go (link n) e = omega arith
+    go (capability a b cancel) e = omega arith
+    go (capability a b flag) e = omega arith
+    go (capability a b (number v)) e = omega arith
+    go (capability a b (string l)) e = reading-fits t a b l e
+
+hit-size : (id : List ℕ) (k : ℕ) (fs : List Field) (t : List ℕ) → lookup id k fs ≡ hit t → length t ≤ size (texts fs)
+unfolding lookup texts size
+hit-size id k [] t e = let z : _≡_ {A = ℕ} 0 1 = cc in absurd (omega arith)
+hit-size id k (f ∷ fs) t e = go (matches id 0 (reading (f .text))) (matches id k (reading (f .text))) e (hit-size id k fs t)
+  where
+    go : (c h : Bool) → pick c none (pick h (hit (f .text)) (lookup id k fs)) ≡ hit t → (lookup id k fs ≡ hit t → length t ≤ size (texts fs))
+        → length t ≤ length (f .text) + 1 + size (texts fs)
+    go true h q ih = let z : _≡_ {A = ℕ} 0 1 = cc in absurd (omega arith)
+    go false true q ih = let same : f .text ≡ t = cc in omega (arith, ap length same)
+    go false false q ih = omega (arith, ih q)
+
+-- a question's terminal that is not refused is that of the name
+asked-accepted : (db name id names : List ℕ) (fs : List Field) → terminalFor db name id ≡ terminal names fs → terminalOf db name ≡ terminal names fs
+unfolding terminalFor
+asked-accepted db name id names fs = go (goodName name) (goodId id)
+  where
+    go : (x y : Bool) → pick x (pick y (terminalOf db name) (refused BadId)) (refused BadName) ≡ terminal names fs → terminalOf db name ≡ terminal names fs
+    go true true e = e
+    go true false e = let z : _≡_ {A = ℕ} 0 1 = cc in absurd (omega arith)
+    go false y e = let z : _≡_ {A = ℕ} 0 1 = cc in absurd (omega arith)
+
+string-room : (db name id buffer : List ℕ) → 16384 ≤ length buffer → QuestionHasRoom (stringOutcome db name id buffer .answer)
+unfolding stringOutcome stringFor decodedOutcome
+string-room db name id buffer h = go (terminalFor db name id) refl (asked-early db name id)
+  where
+    go : (t : Terminal) → terminalFor db name id ≡ t → EarlyTerminal t → QuestionHasRoom (stringFor id t buffer .answer)
+    go (refused r) e k = λ q. early-room r k (let f : r ≡ NoRoom = cc in f)
+    go (terminal names fs) e k = found (lookup id 3 fs) refl
+      where
+        found : (x : Hit) → lookup id 3 fs ≡ x → QuestionHasRoom (decodedOutcome x buffer .answer)
+        found none l q = let z : _≡_ {A = ℕ} 0 1 = cc in omega arith
+        found (hit t) l q =
+            let bytes = bytesOf (reading t) in
+            let fits = sound db name names fs (asked-accepted db name id names fs e) .fits in
+            let w = put-fits bytes (length bytes) buffer (omega (arith, bytes-short t, hit-size id 3 fs t l, fits, h)) in
+            let z : _≡_ {A = ℕ} 0 1 = let f : Present (length bytes) ≡ NotAnswered NoRoom = sym (ap presented w) ∙ q in cc in
+            omega arith
+
+-- ---- the most pads
+
+delay-most : (delay lines : ℕ) (star : Bool) → delay < 100000 → lines ≤ 1000 → delayFor delay star lines ≤ 99999000
+delay-most delay lines true h l = let d : delay ≤ 99999 = omega arith in mul-le-mul d l
+delay-most delay lines false h l = omega arith
+
+pads-most : (cmd : List ℕ) (p : Split) (lines speed : ℕ) → prefixOf cmd ≡ split p → lines ≤ 1000 → speed ≤ 115200
+    → padCount (delayFor (p .delay) (p .star) lines) speed ≤ 115198848
+unfolding padCount
+pads-most cmd p lines speed e l s =
+    let small : p .delay < 100000 = subst (Splits (λ (q : Split). q .delay < 100000)) e (delay-below cmd) in
+    let most : delayFor (p .delay) (p .star) lines * speed ≤ 99999000 * 115200 = mul-le-mul (delay-most (p .delay) lines (p .star) small l) s in
+    omega (arith, most)
+
+pub enough-room : EnoughRoom
+enough-room = record { list = list-room; flat = flat-room; string = string-room; pads = pads-most }
