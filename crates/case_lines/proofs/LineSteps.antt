@@ -119,7 +119,8 @@ module _ (s : List ℕ) (at : ℕ) (h : at < length s) where
   pub text-short : length s - at < 3 → bytesOf (drop at s) ≡ getD s at 0 ∷ bytesOf (drop (at + 1) s)
   text-short g = rw (next s at h) (bytes-short _ _ (rw length-drop (omega arith)))
 
-  pub text-pair : 3 ≤ length s - at → getD s at 0 ≡ 92 → bytesOf (drop at s) ≡ (16 * hexDigitOf (getD s (at + 1) 0) + hexDigitOf (getD s (at + 2) 0)) ∷ bytesOf (drop (at + 3) s)
+  pub text-pair : 3 ≤ length s - at → getD s at 0 ≡ 92 → bytesOf (drop at s) ≡ (16 * hexDigitOf (getD s (at + 1) 0) + hexDigitOf (getD s (at + 2) 0)) ∷
+      bytesOf (drop (at + 3) s)
   unfolding bytesOf
   text-pair g e = rw (next s at h, next s (at + 1) (omega arith), next s (at + 1 + 1) (omega arith), eq-eqb _ 92 e, two, three)
     where

@@ -43,11 +43,13 @@ take-more l n p h = rw (add-one n) (sym (take-suc-set l n p h))
 
 -- ---- the walk with n places passed in an array, and `left` of the size left
 
-module _ (db places : List ℕ) (n left : ℕ) (missing : Refusal) (p : ℕ) (inside : n < length places) (room : n < 32) (big : left ≤ 16384) (new : visited p (take n places) ≡ false) where
+module _ (db places : List ℕ) (n left : ℕ) (missing : Refusal) (p : ℕ) (inside : n < length places) (room : n < 32) (big : left ≤ 16384)
+    (new : visited p (take n places) ≡ false) where
   pub turn-spoilt : verdict (lineAt db p) ≡ malformedLine → follow db (32 - n) (take n places) (16384 - left) missing (At p) ≡ broken Malformed
   turn-spoilt e = follow-spoilt db (take n places) (16384 - left) missing n p room new e
 
-  pub turn-big : (z : ℕ) → (verdict (lineAt db p) ≡ malformedLine → ⊥) → lineSize (lineAt db p) ≡ z → left < z → follow db (32 - n) (take n places) (16384 - left) missing (At p) ≡ broken ChainTooLarge
+  pub turn-big : (z : ℕ) → (verdict (lineAt db p) ≡ malformedLine → ⊥) → lineSize (lineAt db p) ≡ z → left < z → follow db (32 - n) (take n places)
+      (16384 - left) missing (At p) ≡ broken ChainTooLarge
   turn-big z e s h = follow-big db (take n places) (16384 - left) missing n p room new e (omega arith)
 
   pub turn-last : (z : ℕ) → verdict (lineAt db p) ≡ noLink → lineSize (lineAt db p) ≡ z → z ≤ left
@@ -55,7 +57,8 @@ module _ (db places : List ℕ) (n left : ℕ) (missing : Refusal) (p : ℕ) (in
   turn-last z e s h = follow-last db (take n places) (16384 - left) missing n p room new e (omega arith) ∙ ap chain (take-more places n p inside)
 
   pub turn-next : (z : ℕ) (name : List ℕ) → verdict (lineAt db p) ≡ linkTo name → lineSize (lineAt db p) ≡ z → z ≤ left
-      → follow db (32 - n) (take n places) (16384 - left) missing (At p) ≡ follow db (32 - (n + 1)) (take (n + 1) (set places n p)) (16384 - (left - z)) LostLink (findLine db name)
+      → follow db (32 - n) (take n places) (16384 - left) missing (At p) ≡ follow db (32 - (n + 1)) (take (n + 1) (set places n p)) (16384 - (left - z))
+      LostLink (findLine db name)
   turn-next z name e s h =
       let q : 16384 - left + lineSize (lineAt db p) ≡ 16384 - (left - z) = omega arith in
       follow-next db (take n places) (16384 - left) missing n p room new name e (omega arith) ∙ rw (q, take-more places n p inside)

@@ -61,7 +61,8 @@ delivered-writes (stops r) buffer = kept 1 r buffer
 
 -- ---- String
 
-presented-answers : (buffer : List ℕ) (o : Outcome Written) → Writes 1 buffer o → Answers buffer (record { answer = presented (o .answer); buffer = o .buffer })
+presented-answers : (buffer : List ℕ) (o : Outcome Written) → Writes 1 buffer o → Answers buffer
+    (record { answer = presented (o .answer); buffer = o .buffer })
 presented-answers buffer o w = go (o .answer) refl
   where
     go : (a : Written) → o .answer ≡ a → Answers buffer (record { answer = presented a; buffer = o .buffer })

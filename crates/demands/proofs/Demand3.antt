@@ -18,7 +18,23 @@ use Rattle.spec.proofs.WholeLines.{same-equal}
 use Rattle.spec.specs.Refusals.{goodId}
 use Rattle.spec.specs.declared.Kind.{Kind}
 use Rattle.spec.specs.declared.Kind.the-variants.{Flag, Number, String}
-use Rattle.spec.specs.Fields.{Content, cancel, flag, number, string, Reading, malformed, ignored, link, capability, reading, kindNumber, contentKind, contentValue, contentBytes}
+use Rattle.spec.specs.Fields.{
+  Content,
+  cancel,
+  flag,
+  number,
+  string,
+  Reading,
+  malformed,
+  ignored,
+  link,
+  capability,
+  reading,
+  kindNumber,
+  contentKind,
+  contentValue,
+  contentBytes,
+}
 use Rattle.spec.proofs.Readings.{reading-entered}
 use Rattle.spec.specs.Chain.{Field, placed, texts, Terminal, refused, terminal}
 use Rattle.spec.proofs.AcceptedChain.{texts-placed}
@@ -33,14 +49,31 @@ use Rattle.spec.specs.declared.Answer.{Answer}
 use Rattle.spec.specs.declared.Answer.the-variants.{Present, Absent, Refused as NotAnswered}
 use Rattle.spec.specs.declared.Written.{Written}
 use Rattle.spec.specs.declared.Written.the-variants.{Count, Refused}
-use Rattle.demands.specs.Demand3.{Accepted, HasRoom, QuestionHasRoom, question, cut, listed, oneLine, bigEndian, isOf, tells, pairs, occurrences, atPlaceZero, Demand3, EveryAccepted}
+use Rattle.demands.specs.Demand3.{
+  Accepted,
+  HasRoom,
+  QuestionHasRoom,
+  question,
+  cut,
+  listed,
+  oneLine,
+  bigEndian,
+  isOf,
+  tells,
+  pairs,
+  occurrences,
+  atPlaceZero,
+  Demand3,
+  EveryAccepted,
+}
 use Rattle.spec.specs.Listing.{fourBytes, recordOf, records, listFor, listOutcome, flatText, flatFor, flatOutcome}
 use Rattle.spec.proofs.FlatAlone.{sound, asked-is, flag-same, number-same, string-same, list-same, flat-same}
 use Rattle.spec.proofs.Records.{AllSmall, record-length, records-length, values-small, placed-length}
 
 -- ---- a call with room
 
-put-room : (bytes : List ℕ) (n : ℕ) (buffer : List ℕ) → HasRoom (put bytes n buffer .answer) → put bytes n buffer ≡ record { answer = Count n; buffer = bytes ++ drop (length bytes) buffer }
+put-room : (bytes : List ℕ) (n : ℕ) (buffer : List ℕ) → HasRoom (put bytes n buffer .answer) → put bytes n buffer ≡ record
+    { answer = Count n; buffer = bytes ++ drop (length bytes) buffer }
 unfolding put
 put-room bytes n buffer = go (leb (length bytes) (length buffer))
   where
@@ -84,7 +117,8 @@ four-value v h =
     let e : v / 65536 ≡ v / 256 / 256 = sym (div-div-eq-div-mul v 256 256) in
     let f : v / 16777216 ≡ v / 256 / 256 / 256 = sym (div-div-eq-div-mul v 65536 256) ∙ ap (λ (n : ℕ). n / 256) e in
     let top : v / 16777216 < 256 = omega arith in
-    rw (mod-eq-of-lt top, f, e) (pack v (v / 256) (v / 256 / 256) (v / 256 / 256 / 256) (v % 256) (v / 256 % 256) (v / 256 / 256 % 256) (div-add-mod v 256) (div-add-mod (v / 256) 256) (div-add-mod (v / 256 / 256) 256))
+    rw (mod-eq-of-lt top, f, e) (pack v (v / 256) (v / 256 / 256) (v / 256 / 256 / 256) (v % 256) (v / 256 % 256) (v / 256 / 256 % 256) (div-add-mod v 256)
+    (div-add-mod (v / 256) 256) (div-add-mod (v / 256 / 256) 256))
 
 is-of-record : (id : List ℕ) (k p : ℕ) (r : Reading) → canWin r ≡ true → isOf id k (recordOf p r) ≡ matches id k r
 unfolding isOf recordOf matches canWin
@@ -93,12 +127,14 @@ is-of-record id k p ignored w = clash (sym w)
 is-of-record id k p (link n) w = clash (sym w)
 is-of-record id k p (capability a b t) w = refl
 
-tells-record : (id : List ℕ) (k v p : ℕ) (r : Reading) → canWin r ≡ true → valueOf r < 4294967296 → tells id k v (recordOf p r) ≡ both (matches id k r) (eqb (valueOf r) v)
+tells-record : (id : List ℕ) (k v p : ℕ) (r : Reading) → canWin r ≡ true → valueOf r < 4294967296 → tells id k v (recordOf p r) ≡ both (matches id k r)
+    (eqb (valueOf r) v)
 unfolding tells isOf recordOf matches canWin valueOf
 tells-record id k v p malformed w s = clash (sym w)
 tells-record id k v p ignored w s = clash (sym w)
 tells-record id k v p (link n) w s = clash (sym w)
-tells-record id k v p (capability a b t) w s = ap (λ (u : ℕ). both (both (same id (a ∷ b ∷ [])) (eqb k (contentKind t))) (eqb u v)) (four-value (contentValue t) s)
+tells-record id k v p (capability a b t) w s = ap (λ (u : ℕ). both (both (same id (a ∷ b ∷ [])) (eqb k (contentKind t))) (eqb u v))
+    (four-value (contentValue t) s)
 
 unfoldable recordList : List Field → List (List ℕ)
 recordList [] = []
@@ -112,7 +148,8 @@ cut-records (f ∷ fs) rest h =
     let n = record-length (f .place) (reading (f .text)) (h .0) in
     rw (append-assoc r (records fs) rest, take-at r (records fs ++ rest) 8 n, drop-at r (records fs ++ rest) 8 n, cut-records fs rest (h .2))
 
-put-listed : (fs : List Field) (buffer : List ℕ) → AllWin (texts fs) → HasRoom (put (records fs) (length fs) buffer .answer) → listed (put (records fs) (length fs) buffer) ≡ recordList fs
+put-listed : (fs : List Field) (buffer : List ℕ) → AllWin (texts fs) → HasRoom (put (records fs) (length fs) buffer .answer) → listed
+    (put (records fs) (length fs) buffer) ≡ recordList fs
 unfolding listed
 put-listed fs buffer w h = rw (put-room (records fs) (length fs) buffer h) (cut-records fs (drop (length (records fs)) buffer) w)
 
@@ -186,7 +223,8 @@ module _ (id : List ℕ) (k : ℕ) where
 
 module _ (id : List ℕ) (k v : ℕ) where
   here : (f : Field) (fs : List Field) → canWin (reading (f .text)) ≡ true → valueOf (reading (f .text)) < 4294967296
-      → occurrences id k v (recordList (f ∷ fs)) ≡ pick (both (matches id k (reading (f .text))) (eqb (valueOf (reading (f .text))) v)) 1 0 + occurrences id k v (recordList fs)
+      → occurrences id k v (recordList (f ∷ fs)) ≡ pick (both (matches id k (reading (f .text))) (eqb (valueOf (reading (f .text))) v)) 1 0 + occurrences id k
+      v (recordList fs)
   unfolding occurrences recordList
   here f fs w s = rw (tells-record id k v (f .place) (reading (f .text)) w s)
 
@@ -213,7 +251,8 @@ unfolding lookup
 lookup-matches id k [] t e = let z : _≡_ {A = ℕ} 0 1 = cc in absurd (omega arith)
 lookup-matches id k (f ∷ fs) t e = go (matches id 0 (reading (f .text))) (matches id k (reading (f .text))) refl e (lookup-matches id k fs t)
   where
-    go : (c h : Bool) → matches id k (reading (f .text)) ≡ h → pick c none (pick h (hit (f .text)) (lookup id k fs)) ≡ hit t → (lookup id k fs ≡ hit t → matches id k (reading t) ≡ true) → matches id k (reading t) ≡ true
+    go : (c h : Bool) → matches id k (reading (f .text)) ≡ h → pick c none (pick h (hit (f .text)) (lookup id k fs)) ≡ hit t →
+        (lookup id k fs ≡ hit t → matches id k (reading t) ≡ true) → matches id k (reading t) ≡ true
     go true h eh q ih = let z : _≡_ {A = ℕ} 0 1 = cc in absurd (omega arith)
     go false true eh q ih = let s : f .text ≡ t = cc in rw (← s) eh
     go false false eh q ih = ih q
@@ -243,7 +282,8 @@ string-length id (capability a b s) e = go s (both-true (same id (a ∷ b ∷ []
     go (number n) h = clash (sym h)
     go (string l) h = refl
 
-string-answer : (id : List ℕ) (t : Terminal) (lent : List ℕ) → QuestionHasRoom (stringFor id t lent .answer) → stringFor id t lent .answer ≡ answerFor id String t
+string-answer : (id : List ℕ) (t : Terminal) (lent : List ℕ) → QuestionHasRoom (stringFor id t lent .answer) → stringFor id t lent .answer ≡ answerFor id
+    String t
 unfolding stringFor answerFor decodedOutcome hitAnswer
 string-answer id (refused r) lent h = refl
 string-answer id (terminal names fs) lent h = go (lookup id 3 fs) refl h
@@ -254,7 +294,8 @@ string-answer id (terminal names fs) lent h = go (lookup id 3 fs) refl h
         ap (λ (o : Outcome Written). presented (o .answer)) (put-room (bytesOf (reading t)) (length (bytesOf (reading t))) lent (λ f. h (ap presented f)))
         ∙ ap Present (string-length id (reading t) (lookup-matches id 3 fs t e))
 
-question-answer : (k : Kind) (db name id lent : List ℕ) → QuestionHasRoom (question k db name id lent) → question k db name id lent ≡ answerFor id k (terminalFor db name id)
+question-answer : (k : Kind) (db name id lent : List ℕ) → QuestionHasRoom (question k db name id lent) → question k db name id lent ≡ answerFor id k
+    (terminalFor db name id)
 unfolding flagAnswer numberAnswer stringOutcome
 question-answer Flag db name id lent h = refl
 question-answer Number db name id lent h = refl
@@ -277,7 +318,8 @@ module _ (db name names : List ℕ) (fs : List Field) (accepted : Accepted db na
   unfolding flatOutcome flatFor
   flat-is buffer = rw accepted
 
-  list-room : (buffer : List ℕ) → HasRoom (listOutcome db name buffer .answer) → listOutcome db name buffer ≡ record { answer = Count (length (winning fs)); buffer = records (winning fs) ++ drop (length (records (winning fs))) buffer }
+  list-room : (buffer : List ℕ) → HasRoom (listOutcome db name buffer .answer) → listOutcome db name buffer ≡ record
+      { answer = Count (length (winning fs)); buffer = records (winning fs) ++ drop (length (records (winning fs))) buffer }
   list-room buffer h = list-is buffer ∙ put-room (records (winning fs)) (length (winning fs)) buffer (rw (list-is buffer) at h)
 
   line-is : (buffer : List ℕ) → HasRoom (flatOutcome db name buffer .answer) → oneLine (flatOutcome db name buffer) ≡ flatText names fs
@@ -291,11 +333,13 @@ module _ (db name names : List ℕ) (fs : List Field) (accepted : Accepted db na
   positive Number = lit< tt
   positive String = lit< tt
 
-  asked-answer : (k : Kind) (id : List ℕ) (v : ℕ) → (answerFor id k (terminalFor db name id) ≡ Present v) ↔ (hitAnswer (lookup id (kindNumber k) fs) ≡ Present v)
+  asked-answer : (k : Kind) (id : List ℕ) (v : ℕ) → (answerFor id k (terminalFor db name id) ≡ Present v) ↔
+      (hitAnswer (lookup id (kindNumber k) fs) ≡ Present v)
   unfolding answerFor hitAnswer
   asked-answer k id v = rw (asked-is db name names fs accepted db id, accepted) (go (goodId id) refl (lookup id (kindNumber k) fs) refl)
     where
-      go : (x : Bool) → goodId id ≡ x → (y : Hit) → lookup id (kindNumber k) fs ≡ y → (answerFor id k (pick x (terminal names fs) (refused BadId)) ≡ Present v) ↔ (hitAnswer y ≡ Present v)
+      go : (x : Bool) → goodId id ≡ x → (y : Hit) → lookup id (kindNumber k) fs ≡ y →
+          (answerFor id k (pick x (terminal names fs) (refused BadId)) ≡ Present v) ↔ (hitAnswer y ≡ Present v)
       go true e y h = rw (← h) ((λ q. q), (λ q. q))
       go false e none h = ((λ q. let z : _≡_ {A = ℕ} 0 1 = cc in absurd (omega arith)), (λ q. let z : _≡_ {A = ℕ} 0 1 = cc in absurd (omega arith)))
       go false e (hit t) h = clash (sym (matches-good id (kindNumber k) t (lookup-matches id (kindNumber k) fs t h)) ∙ e)

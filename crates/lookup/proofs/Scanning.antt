@@ -71,7 +71,8 @@ module _ (id : List ℕ) (k : ℕ) where
     look-all h = rw (from-all db places n i h)
 
     module _ (inside : i < n) (array : i < length places) where
-      step : lookup id k (fieldsFrom db places n i) ≡ after (scan id k (fieldsOf (lineAt db (getD places i 0)))) (lookup id k (fieldsFrom db places n (i + 1)))
+      step : lookup id k (fieldsFrom db places n i) ≡ after (scan id k (fieldsOf (lineAt db (getD places i 0))))
+          (lookup id k (fieldsFrom db places n (i + 1)))
       step = rw (from-next db places n i inside array) (lookup-line i (fieldsOf (lineAt db (getD places i 0))) (fieldsFrom db places n (i + 1)))
 
       pub look-on : scan id k (fieldsOf (lineAt db (getD places i 0))) ≡ goesOn

@@ -54,7 +54,8 @@ module _ (s n : List ℕ) (a k : ℕ) (fits cut : Bool) (low-k : k < 16) (near :
         lowest = ⊎-elim (λ w. let z = x .lowest in omega arith) (λ w. lowest fits (rw d at w)) r;
       }
     where
-      uncut : high' < 64 → (j : ℕ) → j < k + 1 → (y : Bool) → eqb j k ≡ y → getD s (a + j + 2) 0 ≡ 10 → getD s (a + j + 1) 0 ≡ 92 → (getD s (a + j) 0 ≡ 58 → ⊥) → ⊥
+      uncut : high' < 64 → (j : ℕ) → j < k + 1 → (y : Bool) → eqb j k ≡ y → getD s (a + j + 2) 0 ≡ 10 → getD s (a + j + 1) 0 ≡ 92 →
+          (getD s (a + j) 0 ≡ 58 → ⊥) → ⊥
       uncut u j v true y = rw (eqb-true j k y) (c (go cut refl))
         where
           go : (z : Bool) → cut ≡ z → cut ≡ false
@@ -117,7 +118,8 @@ pub far-none : (s : List ℕ) (p : ℕ) → Far s p 0 0
 far-none s p = record { most = omega arith; none = λ j h. absurd (omega arith); ends = inl refl }
 
 pub far-more :
-    (s : List ℕ) (p k : ℕ) (ending : Bool) {far far' m : ℕ} → k < 32 → Far s p k far → (ending ≡ true → Ending (getD s (p + k) 0)) → (ending ≡ false → Ending (getD s (p + k) 0) → ⊥)
+    (s : List ℕ) (p k : ℕ) (ending : Bool) {far far' m : ℕ} → k < 32 → Far s p k far → (ending ≡ true → Ending (getD s (p + k) 0)) →
+    (ending ≡ false → Ending (getD s (p + k) 0) → ⊥)
     → m ≡ markOf false ending (32 - k) → far ≤ far' → m ≤ far' → (far' ≡ far) ⊎ (far' ≡ m) → Far s p (k + 1) far'
 far-more s p k ending {far} {far'} {m} low x f g e h i q =
     record {
@@ -212,7 +214,8 @@ settled-marked s n a high low x h g unlike = record { holds = λ k l m. settled 
         let z = eqb-false (j + 1) high y in
         let u = x .upto j l f in
         let v = x .from j l f in
-        ⊎-elim (λ w. omega arith) (λ w. ⊎-elim (λ o. omega arith) (λ o. wh .holds (a + high + 1) (omega arith) (omega arith) (is-ending _ o)) w) (x .separator)
+        ⊎-elim (λ w. omega arith) (λ w. ⊎-elim (λ o. omega arith) (λ o. wh .holds (a + high + 1) (omega arith) (omega arith) (is-ending _ o)) w)
+        (x .separator)
 
     settled : (k : ℕ) → a ≤ k → k < a + 16 → (j : ℕ) → k ≡ a + j → Settled s n k
     settled k l m j e =

@@ -82,11 +82,13 @@ module _ {F : ℕ → Type 0} {l : List ℕ} where
         kept c h = getD-set-other l n c b 0 (λ e. omega arith)
 
 -- `note`, with the number k
-pub listed-note : {F : ℕ → Type 0} {l : List ℕ} {n k : ℕ} → Listed F l n k → n < length l → (keep : Bool) → (keep ≡ false → F k) → Listed F (set l n k) (counted keep n) (k + 1)
+pub listed-note : {F : ℕ → Type 0} {l : List ℕ} {n k : ℕ} → Listed F l n k → n < length l → (keep : Bool) → (keep ≡ false → F k) → Listed F (set l n k)
+    (counted keep n) (k + 1)
 listed-note {l = l} {n = n} {k = k} x h true f = listed-more (listed-store x k) (getD-set-same l n k 0 h)
 listed-note {k = k} x h false f = listed-past (listed-store x k) (f refl)
 
-pub noted : {F : ℕ → Type 0} {l m : List ℕ} {n k q r : ℕ} (keep : Bool) → Listed F l n k → n < length l → (keep ≡ false → F k) → r ≡ counted keep n → m ≡ set l n q → q ≡ k → Listed F m r (k + 1)
+pub noted : {F : ℕ → Type 0} {l m : List ℕ} {n k q r : ℕ} (keep : Bool) → Listed F l n k → n < length l → (keep ≡ false → F k) → r ≡ counted keep n → m ≡ set
+    l n q → q ≡ k → Listed F m r (k + 1)
 noted keep x h f e g i = rw (e, g, i) (listed-note x h keep f)
 
 pub counted-most : (keep : Bool) (n : ℕ) → counted keep n ≤ n + 1
@@ -104,10 +106,12 @@ module _ {s n : List ℕ} (a : ℕ) {l : List ℕ} {m : ℕ} where
   parts-past : (j : ℕ) → BlocksListed 16 s n a l m (j * 3) → AllSettled s n (a + j * 48) (a + j * 48 + 48) → BlocksListed 16 s n a l m ((j + 1) * 3)
   parts-past j x y =
       let three : (j + 1) * 3 ≡ j * 3 + 1 + 1 + 1 = omega arith in
-      rw three (listed-past (listed-past (listed-past x (each-in y (omega arith) (omega arith))) (each-in y (omega arith) (omega arith))) (each-in y (omega arith) (omega arith)))
+      rw three (listed-past (listed-past (listed-past x (each-in y (omega arith) (omega arith))) (each-in y (omega arith) (omega arith)))
+      (each-in y (omega arith) (omega arith)))
 
   -- of d blocks that are
-  parts-over : (d e : ℕ) → BlocksListed 16 s n a l m (e * 3) → ((j : ℕ) → e ≤ j → j < e + d → AllSettled s n (a + j * 48) (a + j * 48 + 48)) → BlocksListed 16 s n a l m ((e + d) * 3)
+  parts-over : (d e : ℕ) → BlocksListed 16 s n a l m (e * 3) → ((j : ℕ) → e ≤ j → j < e + d → AllSettled s n (a + j * 48) (a + j * 48 + 48)) → BlocksListed 16
+      s n a l m ((e + d) * 3)
   parts-over zero e x q =
       let same : e + 0 ≡ e = omega arith in
       rw same x
@@ -122,7 +126,8 @@ pub record Reached (l : List ℕ) (c count e : ℕ) : Type 0 where
 
 module _ {s n : List ℕ} (a : ℕ) {blocks : List ℕ} {count k : ℕ} (x : BlocksListed 48 s n a blocks count k) where
   -- from one listed block to the next, or to the end
-  pub parts-to : {l : List ℕ} {m c e : ℕ} (f : ℕ) → e ≤ f → f ≤ k → Reached blocks c count e → ((d : ℕ) → c ≤ d → d < count → f ≤ getD blocks d 0) → BlocksListed 16 s n a l m (e * 3) → BlocksListed 16 s n a l m (f * 3)
+  pub parts-to : {l : List ℕ} {m c e : ℕ} (f : ℕ) → e ≤ f → f ≤ k → Reached blocks c count e → ((d : ℕ) → c ≤ d → d < count → f ≤ getD blocks d 0) →
+      BlocksListed 16 s n a l m (e * 3) → BlocksListed 16 s n a l m (f * 3)
   parts-to {c = c} {e = e} f h u r q y = rw (← sum) (parts-over a (f - e) e y (λ j g v. free j g (omega arith)))
     where
       sum : e + (f - e) ≡ f
@@ -162,7 +167,8 @@ module _ {s n : List ℕ} (a : ℕ) {blocks : List ℕ} {count k : ℕ} (x : Blo
 
 settled-parts : (s n : List ℕ) (a k : ℕ) → ((j : ℕ) → j < k → AllSettled s n (a + j * 16) (a + j * 16 + 16)) → AllSettled s n a (a + k * 16)
 settled-parts s n a zero q = each-none _ (omega arith)
-settled-parts s n a (suc k) q = each-to (a + suc k * 16) (each-join (a + k * 16) (settled-parts s n a k (λ j h. q j (omega arith))) (q k (omega arith))) (omega arith)
+settled-parts s n a (suc k) q = each-to (a + suc k * 16) (each-join (a + k * 16) (settled-parts s n a k (λ j h. q j (omega arith))) (q k (omega arith)))
+    (omega arith)
 
 module _ (s n : List ℕ) (a : ℕ) (l : List ℕ) (m k : ℕ) (x : BlocksListed 16 s n a l m k) where
   settled-part :
@@ -174,8 +180,10 @@ module _ (s n : List ℕ) (a : ℕ) (l : List ℕ) (m k : ℕ) (x : BlocksListed
       listed d e g = rw e at (q d g)
 
   -- before the part at c of the list
-  pub settled-before : (c : ℕ) → c < m → ((d : ℕ) → d < c → AllSettled s n (a + getD l d 0 * 16) (a + getD l d 0 * 16 + 16)) → AllSettled s n a (a + getD l c 0 * 16)
-  settled-before c h q = settled-parts s n a (getD l c 0) (λ j g. settled-part c q j (let w = x .below c h in omega arith) (λ d u e. before j g d u e (ltb d c) (eqb d c) refl refl))
+  pub settled-before : (c : ℕ) → c < m → ((d : ℕ) → d < c → AllSettled s n (a + getD l d 0 * 16) (a + getD l d 0 * 16 + 16)) → AllSettled s n a
+      (a + getD l c 0 * 16)
+  settled-before c h q = settled-parts s n a (getD l c 0)
+      (λ j g. settled-part c q j (let w = x .below c h in omega arith) (λ d u e. before j g d u e (ltb d c) (eqb d c) refl refl))
     where
       before : (j : ℕ) → j < getD l c 0 → (d : ℕ) → d < m → getD l d 0 ≡ j → (y z : Bool) → ltb d c ≡ y → eqb d c ≡ z → d < c
       before j g d u e true z f i = ltb-true d c f

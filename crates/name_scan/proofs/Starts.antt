@@ -25,7 +25,8 @@ pub not-start :
     → Start b c
     → ⊥
 not-start b c true h newline bar e x = true≢false (rw (le-leb 36 c (x .1), lt-ltb c 128 (x .2)) at e)
-not-start b c {l} false h newline bar e x = ⊎-elim (λ y. let z = newline y in h refl (omega arith) (omega arith)) (λ y. let z = bar y in h refl (omega arith) (omega arith)) (x .0)
+not-start b c {l} false h newline bar e x = ⊎-elim (λ y. let z = newline y in h refl (omega arith) (omega arith))
+    (λ y. let z = bar y in h refl (omega arith) (omega arith)) (x .0)
 
 -- ---- a place is settled
 

@@ -34,10 +34,15 @@ EndTo s d = (i : ℕ) → i ≤ length s → length s < i + d → Apart s i → 
 end-step : (s : List ℕ) (d : ℕ) → EndTo s d → EndTo s (suc d)
 end-step s d more i m h apart = go (look s i)
   where
-    at-byte : i < length s → (Pair s i → ⊥) → textAt s i ≡ byte (getD s i 0) (i + 1) (textAt s (i + 1)) → (x : Bool) → eqb (getD s i 0) 10 ≡ x → EndOf s i (extent s i)
+    at-byte : i < length s → (Pair s i → ⊥) → textAt s i ≡ byte (getD s i 0) (i + 1) (textAt s (i + 1)) → (x : Bool) → eqb (getD s i 0) 10 ≡ x → EndOf s i
+        (extent s i)
     at-byte l n t true x =
         let e : extent s i ≡ i = extent-newline s i _ _ _ t (eqb-true _ _ x) ∙ omega arith in
-        rw e (record { lines = refl; closes = λ m. record { newline = eqb-true _ _ x; alone = λ k f g. apart k f (g, ap (λ (j : ℕ). getD s j 0) f ∙ eqb-true _ _ x) } })
+        rw e (record {
+          lines = refl;
+          closes = λ m. record
+              { newline = eqb-true _ _ x; alone = λ k f g. apart k f (g, ap (λ (j : ℕ). getD s j 0) f ∙ eqb-true _ _ x) };
+        })
     at-byte l n t false x =
         let e = extent-on s i _ _ t (eqb-false _ _ x) in
         let w = more (i + 1) (omega arith) (omega arith) (λ k f p. n (rw (shift k f) p)) in

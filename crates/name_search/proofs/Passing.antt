@@ -139,7 +139,9 @@ module _ {s n : List ℕ} {a b e : ℕ} (settled : AllSettled s n a b) (inside :
       go : (z : Bool) → same n (firstName (lineText (textAt s (i + 1)))) ≡ z → Other s n (i + 1)
       go true z =
           let here : i ≡ i - 2 + 2 = omega arith in
-          rw next (settled .holds (i - 2) (omega arith) (omega arith) .other (record { separator = rw here at sep; alone = unpaired; stops = rw next at (w .0) }) (λ k u. shifted k (w .1 k u .0)) (record { holds = λ k u v. unbroken k u v }))
+          rw next (settled .holds (i - 2) (omega arith) (omega arith) .other
+          (record { separator = rw here at sep; alone = unpaired; stops = rw next at (w .0) }) (λ k u. shifted k (w .1 k u .0))
+          (record { holds = λ k u v. unbroken k u v }))
         where
           w : SpelledAt 0 i (length n)
           w = spelled (length n) 0 i (omega arith) (omega arith) (omega arith) (no-colon sep) (all-left s n (i + 1) z)
@@ -172,12 +174,14 @@ module _ {s n : List ℕ} {a b e : ℕ} (settled : AllSettled s n a b) (inside :
   others-step : (d : ℕ) → OthersTo d → OthersTo (suc d)
   others-step d more i h l m = go (eqb i e) refl
     where
-      at-byte : i < e → (x y z : Bool) → eqb (getD s i 0) 10 ≡ x → eqb (getD s i 0) 58 ≡ y → eqb (getD s i 0) 124 ≡ z → among n (laterNames (lineText (byte (getD s i 0) (i + 1) (textAt s (i + 1))))) ≡ false
+      at-byte : i < e → (x y z : Bool) → eqb (getD s i 0) 10 ≡ x → eqb (getD s i 0) 58 ≡ y → eqb (getD s i 0) 124 ≡ z → among n
+          (laterNames (lineText (byte (getD s i 0) (i + 1) (textAt s (i + 1))))) ≡ false
       at-byte p true y z u v w = rw (Laws.names-end _ _ _ (inl (eqb-true _ _ u))) (among-nil n)
       at-byte p false true z u v w = rw (Laws.names-end _ _ _ (inr (eqb-true _ _ v))) (among-nil n)
       at-byte p false false true u v w =
           rw (Laws.names-cut _ _ _ (eqb-true _ _ w))
-          (Laws.among-next _ _ _ (other-at i h p (inr (eqb-true _ _ w)) (λ x. absurd (eqb-false _ _ u x))) ∙ more (i + 1) (omega arith) (omega arith) (omega arith))
+          (Laws.among-next _ _ _ (other-at i h p (inr (eqb-true _ _ w)) (λ x. absurd (eqb-false _ _ u x))) ∙ more (i + 1) (omega arith) (omega arith)
+          (omega arith))
       at-byte p false false false u v w =
           rw (Laws.names-on _ _ _ (⊎-elim (eqb-false _ _ u) (eqb-false _ _ v)) (eqb-false _ _ w)) (more (i + 1) (omega arith) (omega arith) (omega arith))
 
@@ -223,10 +227,12 @@ module _ {s n : List ℕ} {a b e : ℕ} (settled : AllSettled s n a b) (inside :
           let z : _≡_ {A = ℕ} 10 92 = sym (x .1) ∙ sym (ap (λ (j : ℕ). getD s j 0) same) ∙ p .0 in
           omega arith
 
-      at-byte : i < e → (Pair s i → ⊥) → (x : Bool) → eqb (getD s i 0) 10 ≡ x → find n (laterLines (byte (getD s i 0) (i + 1) (textAt s (i + 1)))) ≡ find n (laterLines (textAt s e))
+      at-byte : i < e → (Pair s i → ⊥) → (x : Bool) → eqb (getD s i 0) 10 ≡ x → find n (laterLines (byte (getD s i 0) (i + 1) (textAt s (i + 1)))) ≡ find n
+          (laterLines (textAt s e))
       at-byte p y true x =
           let none = Laws.among-next _ _ _ (other-at i h p (inl (eqb-true _ _ x)) alone) ∙ others (e + 1) (i + 1) (omega arith) (omega arith) (omega arith) in
-          ap (find n) (Laws.lines-cut _ _ _ (eqb-true _ _ x)) ∙ Laws.find-on n (i + 1) (textAt s (i + 1)) none ∙ more (i + 1) (omega arith) (omega arith) (omega arith) (behind-one y)
+          ap (find n) (Laws.lines-cut _ _ _ (eqb-true _ _ x)) ∙ Laws.find-on n (i + 1) (textAt s (i + 1)) none ∙ more (i + 1) (omega arith) (omega arith)
+          (omega arith) (behind-one y)
       at-byte p y false x = ap (find n) (Laws.lines-on _ _ _ (eqb-false _ _ x)) ∙ more (i + 1) (omega arith) (omega arith) (omega arith) (behind-one y)
 
       inner : i < e → Look s i → find n (laterLines (textAt s i)) ≡ find n (laterLines (textAt s e))

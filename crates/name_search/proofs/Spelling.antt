@@ -52,7 +52,8 @@ module _ (s n : List ℕ) (i p : ℕ) where
   pub begins : i < length n → Stands → Begins
   begins h x = go (look s p)
     where
-      at-byte : textAt s p ≡ byte (getD s p 0) (p + 1) (textAt s (p + 1)) → Ending (getD s p 0) ⊎ (Ending (getD s p 0) → ⊥) → (y : Bool) → eqb (getD n i 0) (getD s p 0) ≡ y → Begins
+      at-byte : textAt s p ≡ byte (getD s p 0) (p + 1) (textAt s (p + 1)) → Ending (getD s p 0) ⊎ (Ending (getD s p 0) → ⊥) → (y : Bool) → eqb (getD n i 0)
+          (getD s p 0) ≡ y → Begins
       at-byte t (inl f) y e = absurd (some-left h x (ap (λ (q : Text). firstName (lineText q)) t ∙ Laws.name-end _ _ _ f))
       at-byte t (inr f) true e =
           let on = ap (λ (q : Text). firstName (lineText q)) t ∙ Laws.name-on _ _ _ f in

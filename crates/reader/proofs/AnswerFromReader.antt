@@ -1,5 +1,7 @@
--- A function that hands a reader's database, a name and an id to one function of `questions`, for `flag` and `number`: a walk of its MIR, by hand, for any such callee and the definition that it answers by.
--- The struct is taken apart. It and the slices are Copy: what each owns is had twice, one copy is kept for the exit, and the other goes to the callee, beside the lifetimes' tokens, which come back.
+-- A function that hands a reader's database, a name and an id to one function of `questions`, for `flag` and `number`: a walk of its MIR, by
+-- hand, for any such callee and the definition that it answers by.
+-- The struct is taken apart. It and the slices are Copy: what each owns is had twice, one copy is kept for the exit, and the other goes to the
+-- callee, beside the lifetimes' tokens, which come back.
 -- Assumes nothing.
 use mathlib.Core.Path.{_≡_, refl}
 use Prim.Native.Nat.{ℕ}

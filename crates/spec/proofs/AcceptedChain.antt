@@ -15,10 +15,38 @@ use Rattle.spec.specs.declared.Found.the-variants.{At, Nothing}
 use Rattle.spec.proofs.WholeLines.{Free, AllFree, Holds, line-free, found-holds, find-at-start}
 use Rattle.spec.specs.Lists.{holds}
 use Rattle.spec.specs.Fields.{namesOf, fieldsOf, withColons, size, lineSize, Verdict, malformedLine, noLink, linkTo, judge, verdict}
-use Rattle.spec.proofs.FieldTexts.{names-free, names-stop, fields-free, fields-stop, kept-ignored, kept-name, holds-colon, closed-names, closed-fields, closed-size, closed-line}
+use Rattle.spec.proofs.FieldTexts.{
+  names-free,
+  names-stop,
+  fields-free,
+  fields-stop,
+  kept-ignored,
+  kept-name,
+  holds-colon,
+  closed-names,
+  closed-fields,
+  closed-size,
+  closed-line,
+}
 use Rattle.spec.specs.declared.Refusal.{Refusal}
 use Rattle.spec.specs.declared.Refusal.the-variants.{Cycle, ChainTooLarge, LostLink, UnknownName}
-use Rattle.spec.specs.Chain.{Chain, broken, chain, visited, linkTarget, entered, follow, walk, Field, placed, texts, joinedFields, terminal, described, resolve}
+use Rattle.spec.specs.Chain.{
+  Chain,
+  broken,
+  chain,
+  visited,
+  linkTarget,
+  entered,
+  follow,
+  walk,
+  Field,
+  placed,
+  texts,
+  joinedFields,
+  terminal,
+  described,
+  resolve,
+}
 
 -- ---- lists of texts
 
@@ -57,12 +85,15 @@ module _ (db : List ℕ) where
   unfolding joinedFields texts
   joined-free k [] = tt
   joined-free k (p ∷ ps) =
-      rw (texts-append, texts-placed) (free-append 10 (fieldsOf (lineAt db p)) (texts (joinedFields db (k + 1) ps)) (fields-free 10 (lineAt db p) (lineAt-free p)) (joined-free (k + 1) ps))
+      rw (texts-append, texts-placed)
+      (free-append 10 (fieldsOf (lineAt db p)) (texts (joinedFields db (k + 1) ps)) (fields-free 10 (lineAt db p) (lineAt-free p))
+      (joined-free (k + 1) ps))
 
   pub joined-stop : (k : ℕ) (ps : List ℕ) → AllFree 58 (texts (joinedFields db k ps))
   unfolding joinedFields texts
   joined-stop k [] = tt
-  joined-stop k (p ∷ ps) = rw (texts-append, texts-placed) (free-append 58 (fieldsOf (lineAt db p)) (texts (joinedFields db (k + 1) ps)) (fields-stop (lineAt db p)) (joined-stop (k + 1) ps))
+  joined-stop k (p ∷ ps) = rw (texts-append, texts-placed)
+      (free-append 58 (fieldsOf (lineAt db p)) (texts (joinedFields db (k + 1) ps)) (fields-stop (lineAt db p)) (joined-stop (k + 1) ps))
 
   pub joined-size : (k : ℕ) (ps : List ℕ) → size (texts (joinedFields db k ps)) ≤ sizes db ps
   unfolding joinedFields texts sizes lineSize size
@@ -122,7 +153,8 @@ module _ (db : List ℕ) where
         fits = omega (arith, k .fits);
       }
 
-  pub follow-chain : (n : ℕ) (seen : List ℕ) (before : ℕ) (missing : Refusal) (found : Found) (ps : List ℕ) → follow db n seen before missing found ≡ chain ps → Walked db seen before found ps
+  pub follow-chain : (n : ℕ) (seen : List ℕ) (before : ℕ) (missing : Refusal) (found : Found) (ps : List ℕ) → follow db n seen before missing found ≡ chain ps
+      → Walked db seen before found ps
   unfolding follow
   follow-chain zero seen before missing (At q) ps h = go (visited q seen) h
     where
@@ -138,7 +170,8 @@ module _ (db : List ℕ) where
       more = follow db n (seen ++ q ∷ []) (before + lineSize (lineAt db q)) LostLink (linkTarget db q (verdict (lineAt db q)))
 
       go : (x : Bool) → (more ≡ chain ps → Walked db (seen ++ q ∷ []) (before + lineSize (lineAt db q)) (linkTarget db q (verdict (lineAt db q))) ps)
-          → pick x (broken Cycle) (entered (seen ++ q ∷ []) (verdict (lineAt db q)) (ltb 16384 (before + lineSize (lineAt db q))) more) ≡ chain ps → Walked db seen before (At q) ps
+          → pick x (broken Cycle) (entered (seen ++ q ∷ []) (verdict (lineAt db q)) (ltb 16384 (before + lineSize (lineAt db q))) more) ≡ chain ps → Walked db
+          seen before (At q) ps
       go true ih h = let z : _≡_ {A = ℕ} 0 1 = cc in absurd (omega arith)
       go false ih h = entered-chain seen before q (verdict (lineAt db q)) _ more ps refl refl ih h
 
@@ -183,7 +216,8 @@ resolved-sound db name names fs e = go (walk db name) refl e
 -- ---- a database of one line
 
 -- The texts, each with a colon, then a newline, are a database whose first line they are.
-pub alone-line : (names : List ℕ) (ts : List (List ℕ)) → Free 10 names → AllFree 10 ts → lineAt (withColons (names ∷ ts) ++ 10 ∷ []) 0 ≡ withColons (names ∷ ts)
+pub alone-line : (names : List ℕ) (ts : List (List ℕ)) → Free 10 names → AllFree 10 ts → lineAt (withColons (names ∷ ts) ++ 10 ∷ []) 0 ≡ withColons
+    (names ∷ ts)
 unfolding lineAt textAt
 alone-line names ts h k = closed-line names ts 0 h k
 
@@ -211,5 +245,6 @@ module _ (name names : List ℕ) (ts : List (List ℕ)) (k : Sound name names ts
   unfolding resolve described joinedFields
   resolve-alone j =
       let l = alone-line names ts (k .names-free) (k .free) in
-      let w = walk-alone (withColons (names ∷ ts) ++ 10 ∷ []) name (rw l sound-held) (rw l (sound-verdict j)) (rw (l, closed-size names ts (k .names-stop) (k .stop)) (k .fits)) in
+      let w = walk-alone (withColons (names ∷ ts) ++ 10 ∷ []) name (rw l sound-held) (rw l (sound-verdict j))
+      (rw (l, closed-size names ts (k .names-stop) (k .stop)) (k .fits)) in
       rw (w, l, closed-names names ts (k .names-stop) (k .stop), closed-fields names ts (k .names-stop) (k .stop), append-nil)

@@ -5,11 +5,44 @@ use Rattle.spec.specs.Digits.{valueFrom, areDigits, leading, trailing, s
 use Rattle.spec.specs.Refusals.{nameByte, nameBytes, goodName, idByte, isTc, idBytes, goodId, tooLarge}
 use Rattle.spec.specs.Lines.{join, textAt, lineText, laterLines, blank, comment, firstName, laterNames, find, findLine, lineAt, lineEnd, extent}
 use Rattle.spec.specs.Strings.{emit, escaped, control, decode}
-use Rattle.spec.specs.Fields.{namesOf, grow, split, fieldsOf, withColons, size, lineSize, numberBase, numberValue, goodNumber, stringReading, contentReading, linkReading, namedReading, reading, isIgnoredField, allIgnored, judged, judge, verdict}
+use Rattle.spec.specs.Fields.{
+  namesOf,
+  grow,
+  split,
+  fieldsOf,
+  withColons,
+  size,
+  lineSize,
+  numberBase,
+  numberValue,
+  goodNumber,
+  stringReading,
+  contentReading,
+  linkReading,
+  namedReading,
+  reading,
+  isIgnoredField,
+  allIgnored,
+  judged,
+  judge,
+  verdict,
+}
 use Rattle.spec.specs.Chain.{visited, linkTarget, entered, follow, walk, placed, texts, joinedFields, described, resolve}
 use Rattle.spec.specs.Lookup.{matches, lookup, canWin, hides, hidden, winningAfter, winning, valueOf, bytesOf}
 use Rattle.spec.specs.Answers.{put}
-use Rattle.spec.specs.Questions.{terminalOf, terminalFor, hitAnswer, answerFor, flagAnswer, numberAnswer, decodedOutcome, stringFor, stringOutcome, shown, showAnswer}
+use Rattle.spec.specs.Questions.{
+  terminalOf,
+  terminalFor,
+  hitAnswer,
+  answerFor,
+  flagAnswer,
+  numberAnswer,
+  decodedOutcome,
+  stringFor,
+  stringOutcome,
+  shown,
+  showAnswer,
+}
 use Rattle.spec.specs.Listing.{recordOf, records, listFor, listOutcome, flatText, flatFor, flatOutcome}
 use Rattle.spec.specs.Values.{raised, changed}
 use Rattle.spec.specs.Sequences.{readByte, perform}
@@ -18,5 +51,12 @@ use Rattle.spec.specs.Padding.{tenths, prefixOf, padCount}
 use Rattle.spec.specs.Sending.{prepared, preparedAt, padsOf, outgoing, outgoingAt, delivered, sendOutcome, sendAtOutcome}
 
 unfoldable pub computing : Unit {0}
-unfolding holds upto past laterPieces same among valueFrom areDigits leading trailing spell places written nameByte nameBytes goodName idByte isTc idBytes goodId tooLarge join textAt lineText laterLines blank comment firstName laterNames find findLine lineAt lineEnd extent emit escaped control decode namesOf grow split fieldsOf withColons size lineSize numberBase numberValue goodNumber stringReading contentReading linkReading namedReading reading isIgnoredField allIgnored judged judge verdict visited linkTarget entered follow walk placed texts joinedFields described resolve matches lookup canWin hides hidden winningAfter winning valueOf bytesOf put terminalOf terminalFor hitAnswer answerFor flagAnswer numberAnswer decodedOutcome stringFor stringOutcome shown showAnswer recordOf records listFor listOutcome flatText flatFor flatOutcome raised changed readByte perform repeated compensations fillIn plainOf tenths prefixOf padCount prepared preparedAt padsOf outgoing outgoingAt delivered sendOutcome sendAtOutcome
+unfolding holds upto past laterPieces same among valueFrom areDigits leading trailing spell places written nameByte nameBytes goodName idByte isTc idBytes
+    goodId tooLarge join textAt lineText laterLines blank comment firstName laterNames find findLine lineAt lineEnd extent emit escaped control decode namesOf
+    grow split fieldsOf withColons size lineSize numberBase numberValue goodNumber stringReading contentReading linkReading namedReading reading
+    isIgnoredField allIgnored judged judge verdict visited linkTarget entered follow walk placed texts joinedFields described resolve matches lookup
+    canWin hides hidden winningAfter winning valueOf bytesOf put terminalOf terminalFor hitAnswer answerFor flagAnswer numberAnswer decodedOutcome
+    stringFor stringOutcome shown showAnswer recordOf records listFor listOutcome flatText flatFor flatOutcome raised changed readByte perform
+    repeated compensations fillIn plainOf tenths prefixOf padCount prepared preparedAt padsOf outgoing outgoingAt delivered sendOutcome
+    sendAtOutcome
 computing = tt

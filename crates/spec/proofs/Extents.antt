@@ -26,7 +26,8 @@ end-inside size at (b ∷ []) h = go (eqb b 10)
 end-inside size at (b ∷ c ∷ s) h =
     go (both (eqb b 92) (eqb c 10)) (eqb b 10) refl (end-inside size (at + 1 + 1) s (omega arith)) (end-inside size (at + 1) (c ∷ s) (omega arith))
   where
-    go : (x y : Bool) → eqb b 10 ≡ y → Inside (at + 1 + 1) size (lineEnd size (join (at + 1 + 1) s)) → Inside (at + 1) size (lineEnd size (join (at + 1) (c ∷ s)))
+    go : (x y : Bool) → eqb b 10 ≡ y → Inside (at + 1 + 1) size (lineEnd size (join (at + 1 + 1) s)) → Inside (at + 1) size
+        (lineEnd size (join (at + 1) (c ∷ s)))
         → Inside at size (lineEnd size (pick x (join (at + 1 + 1) s) (byte b (at + 1) (join (at + 1) (c ∷ s)))))
     go true y e k m = (omega (arith, k .0), k .1)
     go false true e k m = rw e (omega arith, omega arith)
@@ -70,7 +71,8 @@ module _ (n : List ℕ) (size p : ℕ) where
 pub found-inside : (db n : List ℕ) (p : ℕ) → findLine db n ≡ At p → p ≤ length db
 unfolding findLine textAt
 found-inside db n p e =
-    find-one n (length db) p (record { start = 0; text = lineText (join 0 db) }) (laterLines (join 0 db)) (omega arith) (find-inside n (length db) p 0 db (omega arith)) e
+    find-one n (length db) p (record { start = 0; text = lineText (join 0 db) }) (laterLines (join 0 db)) (omega arith)
+    (find-inside n (length db) p 0 db (omega arith)) e
 
 -- ---- the end of a line, byte by byte
 

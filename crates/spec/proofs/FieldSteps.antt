@@ -132,7 +132,8 @@ module _ (b : ℕ) (l : List ℕ) where
   unfolding decode
   decode-first e = rw e
 
-pub escaped-not : (b : ℕ) → (b ≡ 69 → ⊥) → (b ≡ 110 → ⊥) → (b ≡ 114 → ⊥) → (b ≡ 116 → ⊥) → (b ≡ 98 → ⊥) → (b ≡ 102 → ⊥) → (b ≡ 94 → ⊥) → (b ≡ 92 → ⊥) → escaped b ≡ 256
+pub escaped-not : (b : ℕ) → (b ≡ 69 → ⊥) → (b ≡ 110 → ⊥) → (b ≡ 114 → ⊥) → (b ≡ 116 → ⊥) → (b ≡ 98 → ⊥) → (b ≡ 102 → ⊥) → (b ≡ 94 → ⊥) → (b ≡ 92 → ⊥) →
+    escaped b ≡ 256
 unfolding escaped
 escaped-not b e n r t b′ f h s =
     rw (ne-eqb b 69 e, ne-eqb b 110 n, ne-eqb b 114 r, ne-eqb b 116 t, ne-eqb b 98 b′, ne-eqb b 102 f, ne-eqb b 94 h, ne-eqb b 92 s)

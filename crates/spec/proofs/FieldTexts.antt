@@ -131,7 +131,8 @@ unfolding namesOf holds upto past
 line-parts [] h = let z : _≡_ {A = ℕ} 0 1 = cc in absurd (omega arith)
 line-parts (b ∷ l) h = go (eqb b 58) refl h (line-parts l)
   where
-    go : (x : Bool) → eqb b 58 ≡ x → either x (holds 58 l) ≡ true → (holds 58 l ≡ true → l ≡ upto 58 l ++ 58 ∷ past 58 l) → b ∷ l ≡ pick x [] (b ∷ upto 58 l) ++ 58 ∷ pick x l (past 58 l)
+    go : (x : Bool) → eqb b 58 ≡ x → either x (holds 58 l) ≡ true → (holds 58 l ≡ true → l ≡ upto 58 l ++ 58 ∷ past 58 l) → b ∷ l ≡ pick x [] (b ∷ upto 58 l)
+        ++ 58 ∷ pick x l (past 58 l)
     go true e q ih = ap (λ (c : ℕ). c ∷ l) (eqb-true b 58 e)
     go false e q ih = ap (λ (k : List ℕ). b ∷ k) (ih q)
 
@@ -178,7 +179,8 @@ module _ (n : List ℕ) (ts : List (List ℕ)) (hn : Free 58 n) (hts : AllFree 5
   closed-size = rw (closed-names, closed-fields)
 
 -- As a database with a newline after them, they are its first line.
-pub closed-line : (n : List ℕ) (ts : List (List ℕ)) (at : ℕ) → Free 10 n → AllFree 10 ts → lineText (join at (withColons (n ∷ ts) ++ 10 ∷ [])) ≡ withColons (n ∷ ts)
+pub closed-line : (n : List ℕ) (ts : List (List ℕ)) (at : ℕ) → Free 10 n → AllFree 10 ts → lineText (join at (withColons (n ∷ ts) ++ 10 ∷ [])) ≡ withColons
+    (n ∷ ts)
 unfolding withColons
 closed-line n [] at h hs =
     ap (λ (s : List ℕ). lineText (join at s)) (append-assoc n (58 ∷ []) (10 ∷ []))

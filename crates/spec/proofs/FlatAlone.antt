@@ -31,7 +31,8 @@ pub opened-name : (db name names : List ℕ) (fs : List Field) → terminalOf db
 unfolding terminalOf
 opened-name db name names fs e = go (goodName name) refl e
   where
-    go : (x : Bool) → goodName name ≡ x → pick x (pick (tooLarge db) (refused DatabaseTooLarge) (resolve db name)) (refused BadName) ≡ terminal names fs → goodName name ≡ true
+    go : (x : Bool) → goodName name ≡ x → pick x (pick (tooLarge db) (refused DatabaseTooLarge) (resolve db name)) (refused BadName) ≡ terminal names fs →
+        goodName name ≡ true
     go true h q = h
     go false h q = let z : _≡_ {A = ℕ} 0 1 = cc in absurd (omega arith)
 
@@ -39,20 +40,23 @@ pub opened-resolved : (db name names : List ℕ) (fs : List Field) → terminalO
 unfolding terminalOf
 opened-resolved db name names fs e = go (goodName name) (tooLarge db) e
   where
-    go : (x y : Bool) → pick x (pick y (refused DatabaseTooLarge) (resolve db name)) (refused BadName) ≡ terminal names fs → resolve db name ≡ terminal names fs
+    go : (x y : Bool) → pick x (pick y (refused DatabaseTooLarge) (resolve db name)) (refused BadName) ≡ terminal names fs → resolve db name ≡ terminal names
+        fs
     go true true q = let z : _≡_ {A = ℕ} 0 1 = cc in absurd (omega arith)
     go true false q = q
     go false y q = let z : _≡_ {A = ℕ} 0 1 = cc in absurd (omega arith)
 
 -- ---- answers over terminals
 
-pub answer-flat : (id : List ℕ) (k : Kind) (names : List ℕ) (fs : List Field) → answerFor id k (terminal names (placed 0 (texts (winning fs)))) ≡ answerFor id k (terminal names fs)
+pub answer-flat : (id : List ℕ) (k : Kind) (names : List ℕ) (fs : List Field) → answerFor id k (terminal names (placed 0 (texts (winning fs)))) ≡ answerFor id
+    k (terminal names fs)
 unfolding answerFor
 answer-flat id Flag names fs = rw (lookup-placed id 1 0 (winning fs), lookup-winning fs id 1 (lit< tt))
 answer-flat id Number names fs = rw (lookup-placed id 2 0 (winning fs), lookup-winning fs id 2 (lit< tt))
 answer-flat id String names fs = rw (lookup-placed id 3 0 (winning fs), lookup-winning fs id 3 (lit< tt))
 
-pub string-flat : (id names buffer : List ℕ) (fs : List Field) → stringFor id (terminal names (placed 0 (texts (winning fs)))) buffer ≡ stringFor id (terminal names fs) buffer
+pub string-flat : (id names buffer : List ℕ) (fs : List Field) → stringFor id (terminal names (placed 0 (texts (winning fs)))) buffer ≡ stringFor id
+    (terminal names fs) buffer
 unfolding stringFor
 string-flat id names buffer fs = rw (lookup-placed id 3 0 (winning fs), lookup-winning fs id 3 (lit< tt))
 
@@ -69,7 +73,8 @@ flat-fits : (name names : List ℕ) (fs : List Field) → Sound name names (text
 unfolding tooLarge flatText size
 flat-fits name names fs k =
     let w = winning-sound fs name names k in
-    le-ltb 1048576 (length (flatText names fs)) (omega (arith, w .fits, length-append (withColons (names ∷ texts (winning fs))) (10 ∷ []), length-closed (names ∷ texts (winning fs))))
+    le-ltb 1048576 (length (flatText names fs))
+    (omega (arith, w .fits, length-append (withColons (names ∷ texts (winning fs))) (10 ∷ []), length-closed (names ∷ texts (winning fs))))
 
 module _ (db name names : List ℕ) (fs : List Field) (accepted : terminalOf db name ≡ terminal names fs) where
   pub sound : Sound name names (texts fs)
@@ -92,7 +97,8 @@ module _ (db name names : List ℕ) (fs : List Field) (accepted : terminalOf db 
   unfolding flagAnswer
   flag-same id = rw (asked-is (flatText names fs) id, asked-is db id, opened-flat, accepted) (go (goodId id))
     where
-      go : (x : Bool) → answerFor id Flag (pick x (terminal names (placed 0 (texts (winning fs)))) (refused BadId)) ≡ answerFor id Flag (pick x (terminal names fs) (refused BadId))
+      go : (x : Bool) → answerFor id Flag (pick x (terminal names (placed 0 (texts (winning fs)))) (refused BadId)) ≡ answerFor id Flag
+          (pick x (terminal names fs) (refused BadId))
       go true = answer-flat id Flag names fs
       go false = refl
 
@@ -100,7 +106,8 @@ module _ (db name names : List ℕ) (fs : List Field) (accepted : terminalOf db 
   unfolding numberAnswer
   number-same id = rw (asked-is (flatText names fs) id, asked-is db id, opened-flat, accepted) (go (goodId id))
     where
-      go : (x : Bool) → answerFor id Number (pick x (terminal names (placed 0 (texts (winning fs)))) (refused BadId)) ≡ answerFor id Number (pick x (terminal names fs) (refused BadId))
+      go : (x : Bool) → answerFor id Number (pick x (terminal names (placed 0 (texts (winning fs)))) (refused BadId)) ≡ answerFor id Number
+          (pick x (terminal names fs) (refused BadId))
       go true = answer-flat id Number names fs
       go false = refl
 
@@ -108,11 +115,13 @@ module _ (db name names : List ℕ) (fs : List Field) (accepted : terminalOf db 
   unfolding stringOutcome
   string-same id buffer = rw (asked-is (flatText names fs) id, asked-is db id, opened-flat, accepted) (go (goodId id))
     where
-      go : (x : Bool) → stringFor id (pick x (terminal names (placed 0 (texts (winning fs)))) (refused BadId)) buffer ≡ stringFor id (pick x (terminal names fs) (refused BadId)) buffer
+      go : (x : Bool) → stringFor id (pick x (terminal names (placed 0 (texts (winning fs)))) (refused BadId)) buffer ≡ stringFor id
+          (pick x (terminal names fs) (refused BadId)) buffer
       go true = string-flat id names buffer fs
       go false = refl
 
-  pub list-same : (buffer : List ℕ) → listOutcome (flatText names fs) name buffer ≡ put (records (placed 0 (texts (winning fs)))) (length (placed 0 (texts (winning fs)))) buffer
+  pub list-same : (buffer : List ℕ) → listOutcome (flatText names fs) name buffer ≡ put (records (placed 0 (texts (winning fs))))
+      (length (placed 0 (texts (winning fs)))) buffer
   unfolding listOutcome listFor
   list-same buffer = rw (opened-flat, winning-flat fs)
 

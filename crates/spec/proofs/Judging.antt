@@ -13,7 +13,33 @@ use Rattle.spec.specs.Lists.{holds}
 use Rattle.spec.specs.Refusals.{nameBytes, goodName, isTc, idBytes}
 use Rattle.spec.specs.Lines.{blank}
 use Rattle.spec.specs.Strings.{Decoded, bad, good, plain, decode}
-use Rattle.spec.specs.Fields.{Content, cancel, number, Reading, malformed, ignored, link, capability, goodNumber, numberValue, stringReading, contentReading, linkReading, namedReading, reading, isIgnoredField, allIgnored, judged, Verdict, malformedLine, noLink, linkTo, judge, fieldsOf, verdict}
+use Rattle.spec.specs.Fields.{
+  Content,
+  cancel,
+  number,
+  Reading,
+  malformed,
+  ignored,
+  link,
+  capability,
+  goodNumber,
+  numberValue,
+  stringReading,
+  contentReading,
+  linkReading,
+  namedReading,
+  reading,
+  isIgnoredField,
+  allIgnored,
+  judged,
+  Verdict,
+  malformedLine,
+  noLink,
+  linkTo,
+  judge,
+  fieldsOf,
+  verdict,
+}
 use Rattle.spec.proofs.Tests.{both-true}
 
 pub judge-nil : judge [] ≡ noLink
@@ -81,7 +107,8 @@ not-content a b [] n e = let z : _≡_ {A = ℕ} 0 1 = cc in omega arith
 not-content a b (c ∷ l) n e = go (eqb c 35) (goodNumber l) (eqb c 61) (eqb c 64) (eqb (length l) 0) e
   where
     go : (x g y z d : Bool)
-        → pick x (pick g (capability a b (number (numberValue l))) malformed) (pick y (stringReading a b (decode plain l)) (pick z (pick d (capability a b cancel) malformed) malformed)) ≡ link n
+        → pick x (pick g (capability a b (number (numberValue l))) malformed)
+        (pick y (stringReading a b (decode plain l)) (pick z (pick d (capability a b cancel) malformed) malformed)) ≡ link n
         → ⊥
     go true true y z d q = let w : _≡_ {A = ℕ} 0 1 = cc in omega arith
     go true false y z d q = let w : _≡_ {A = ℕ} 0 1 = cc in omega arith
@@ -109,7 +136,8 @@ reading-good (a ∷ l) n e = go (either (blank (a ∷ l)) (eqb a 46)) e
     go true q = let z : _≡_ {A = ℕ} 0 1 = cc in absurd (omega arith)
     go false q = named-good a l n q
 
-judged-good : (t : List ℕ) (fs : List (List ℕ)) (v : Verdict) (n : List ℕ) → (v ≡ linkTo n → goodName n ≡ true) → judged (reading t) fs v ≡ linkTo n → goodName n ≡ true
+judged-good : (t : List ℕ) (fs : List (List ℕ)) (v : Verdict) (n : List ℕ) → (v ≡ linkTo n → goodName n ≡ true) → judged (reading t) fs v ≡ linkTo n →
+    goodName n ≡ true
 unfolding judged
 judged-good t fs v n ih e = go (reading t) refl e
   where

@@ -31,7 +31,8 @@ module _ (base : ℕ) where
   trailing-drop [] = refl
   trailing-drop (c ∷ s) = go (isDigit base c) (trailing-drop s)
     where
-      go : (t : Bool) → trailing base s ≡ drop (length (leading base s)) s → pick t (trailing base s) (c ∷ s) ≡ drop (length (pick t (c ∷ leading base s) [])) (c ∷ s)
+      go : (t : Bool) → trailing base s ≡ drop (length (leading base s)) s → pick t (trailing base s) (c ∷ s) ≡ drop (length (pick t (c ∷ leading base s) []))
+          (c ∷ s)
       go true h = h
       go false h = refl
 

@@ -14,7 +14,27 @@ use Rattle.spec.specs.Lines.{blank}
 use Rattle.spec.proofs.Tests.{both-true}
 use Rattle.spec.specs.Refusals.{isTc, idBytes, goodName}
 use Rattle.spec.specs.Digits.{areDigits}
-use Rattle.spec.specs.Fields.{numberBase, numberValue, goodNumber, Content, cancel, flag, number, string, Reading, malformed, ignored, link, capability, stringReading, contentReading, linkReading, namedReading, reading, contentValue}
+use Rattle.spec.specs.Fields.{
+  numberBase,
+  numberValue,
+  goodNumber,
+  Content,
+  cancel,
+  flag,
+  number,
+  string,
+  Reading,
+  malformed,
+  ignored,
+  link,
+  capability,
+  stringReading,
+  contentReading,
+  linkReading,
+  namedReading,
+  reading,
+  contentValue,
+}
 use Rattle.spec.specs.Strings.{Decoded, bad, good, emit, Mode, plain, slash, caret, oneDigit, twoDigits, octal, escaped, control, decode}
 
 -- ---- a decoded text is no longer than the text

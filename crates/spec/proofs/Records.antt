@@ -25,7 +25,13 @@ pub records-length : (fs : List Field) → AllWin (texts fs) → length (records
 unfolding records texts
 records-length [] h = refl
 records-length (f ∷ fs) h =
-    omega (arith, length-append (recordOf (f .place) (reading (f .text))) (records fs), record-length (f .place) (reading (f .text)) (h .0), records-length fs (h .2))
+    omega (
+      arith,
+      length-append (recordOf (f .place) (reading (f .text))) (records fs),
+      record-length (f .place) (reading (f .text)) (h .0),
+      records-length fs
+          (h .2),
+    )
 
 pub placed-length : (p : ℕ) (fs : List Field) → length (placed p (texts fs)) ≡ length fs
 unfolding placed texts

@@ -102,7 +102,8 @@ unfolding without texts
 without-wins r [] h = tt
 without-wins r (f ∷ fs) h = go (hides r (reading (f .text))) (without-clear (reading (f .text)) r fs (h .1)) (without-wins r fs (h .2))
   where
-    go : (x : Bool) → Clear (reading (f .text)) (texts (without r fs)) → AllWin (texts (without r fs)) → AllWin (texts (pick x (without r fs) (f ∷ without r fs)))
+    go : (x : Bool) → Clear (reading (f .text)) (texts (without r fs)) → AllWin (texts (without r fs)) → AllWin
+        (texts (pick x (without r fs) (f ∷ without r fs)))
     go true c k = k
     go false c k = (h .0, c, k)
 
@@ -110,9 +111,11 @@ pub removal-wins : (fs : List Field) → AllWin (texts (byRemoval fs))
 unfolding byRemoval texts
 removal-wins [] = tt
 removal-wins (f ∷ fs) =
-    go (canWin (reading (f .text))) refl (without-clears (reading (f .text)) (byRemoval fs)) (without-wins (reading (f .text)) (byRemoval fs) (removal-wins fs))
+    go (canWin (reading (f .text))) refl (without-clears (reading (f .text)) (byRemoval fs))
+    (without-wins (reading (f .text)) (byRemoval fs) (removal-wins fs))
   where
-    go : (x : Bool) → canWin (reading (f .text)) ≡ x → Clear (reading (f .text)) (texts (without (reading (f .text)) (byRemoval fs))) → AllWin (texts (without (reading (f .text)) (byRemoval fs)))
+    go : (x : Bool) → canWin (reading (f .text)) ≡ x → Clear (reading (f .text)) (texts (without (reading (f .text)) (byRemoval fs))) → AllWin
+        (texts (without (reading (f .text)) (byRemoval fs)))
         → AllWin (texts (pick x (f ∷ without (reading (f .text)) (byRemoval fs)) (without (reading (f .text)) (byRemoval fs))))
     go true e c k = (e, c, k)
     go false e c k = k
@@ -147,11 +150,13 @@ module _ (id : List ℕ) (k : ℕ) where
   unfolding lookup
   lookup-cancel f fs e = rw e
 
-  pub lookup-hit : (f : Field) (fs : List Field) → matches id 0 (reading (f .text)) ≡ false → matches id k (reading (f .text)) ≡ true → lookup id k (f ∷ fs) ≡ hit (f .text)
+  pub lookup-hit : (f : Field) (fs : List Field) → matches id 0 (reading (f .text)) ≡ false → matches id k (reading (f .text)) ≡ true → lookup id k (f ∷ fs) ≡
+      hit (f .text)
   unfolding lookup
   lookup-hit f fs e h = rw (e, h)
 
-  pub lookup-on : (f : Field) (fs : List Field) → matches id 0 (reading (f .text)) ≡ false → matches id k (reading (f .text)) ≡ false → lookup id k (f ∷ fs) ≡ lookup id k fs
+  pub lookup-on : (f : Field) (fs : List Field) → matches id 0 (reading (f .text)) ≡ false → matches id k (reading (f .text)) ≡ false → lookup id k (f ∷ fs) ≡
+      lookup id k fs
   unfolding lookup
   lookup-on f fs e h = rw (e, h)
 
@@ -161,7 +166,8 @@ module _ (id : List ℕ) (k : ℕ) where
   cancelled r c [] w = unfold lookup in refl
   cancelled r c (f ∷ fs) w = go (hides r (reading (f .text))) refl (matches id k (reading (f .text))) refl (cancelled r c fs (w .2))
     where
-      go : (x : Bool) → hides r (reading (f .text)) ≡ x → (y : Bool) → matches id k (reading (f .text)) ≡ y → lookup id k (without r fs) ≡ none → lookup id k (pick x (without r fs) (f ∷ without r fs)) ≡ none
+      go : (x : Bool) → hides r (reading (f .text)) ≡ x → (y : Bool) → matches id k (reading (f .text)) ≡ y → lookup id k (without r fs) ≡ none → lookup id k
+          (pick x (without r fs) (f ∷ without r fs)) ≡ none
       go true e y h ih = ih
       go false e true h ih = clash (rw c at (sym (matches-hides id k (reading (f .text)) r h) ∙ e))
       go false e false h ih = lookup-on f (without r fs) (win-no-cancel id (reading (f .text)) (w .0)) h ∙ ih
@@ -175,7 +181,8 @@ module _ (id : List ℕ) (k : ℕ) where
       no : matches id 0 (reading (f .text)) ≡ false
       no = win-no-cancel id (reading (f .text)) (w .0)
 
-      go : (x : Bool) → hides r (reading (f .text)) ≡ x → (y : Bool) → matches id k (reading (f .text)) ≡ y → lookup id k (without r fs) ≡ lookup id k fs → lookup id k (pick x (without r fs) (f ∷ without r fs)) ≡ lookup id k (f ∷ fs)
+      go : (x : Bool) → hides r (reading (f .text)) ≡ x → (y : Bool) → matches id k (reading (f .text)) ≡ y → lookup id k (without r fs) ≡ lookup id k fs →
+          lookup id k (pick x (without r fs) (f ∷ without r fs)) ≡ lookup id k (f ∷ fs)
       go true e true h ih = clash (rw (c, n) at (sym e ∙ matches-hides id k (reading (f .text)) r h))
       go true e false h ih = ih ∙ sym (lookup-on f fs no h)
       go false e true h ih = lookup-hit f (without r fs) no h ∙ sym (lookup-hit f fs no h)
@@ -185,7 +192,8 @@ module _ (id : List ℕ) (k : ℕ) where
   pub lookup-removal : 0 < k → (fs : List Field) → lookup id k (byRemoval fs) ≡ lookup id k fs
   unfolding byRemoval
   lookup-removal z [] = refl
-  lookup-removal z (f ∷ fs) = go (canWin (reading (f .text))) refl (matches id 0 (reading (f .text))) refl (matches id k (reading (f .text))) refl (lookup-removal z fs)
+  lookup-removal z (f ∷ fs) = go (canWin (reading (f .text))) refl (matches id 0 (reading (f .text))) refl (matches id k (reading (f .text))) refl
+      (lookup-removal z fs)
     where
       r : Reading
       r = reading (f .text)
@@ -193,7 +201,8 @@ module _ (id : List ℕ) (k : ℕ) where
       others : List Field
       others = without (reading (f .text)) (byRemoval fs)
 
-      go : (w : Bool) → canWin r ≡ w → (c : Bool) → matches id 0 r ≡ c → (h : Bool) → matches id k r ≡ h → lookup id k (byRemoval fs) ≡ lookup id k fs → lookup id k (pick w (f ∷ others) others) ≡ lookup id k (f ∷ fs)
+      go : (w : Bool) → canWin r ≡ w → (c : Bool) → matches id 0 r ≡ c → (h : Bool) → matches id k r ≡ h → lookup id k (byRemoval fs) ≡ lookup id k fs →
+          lookup id k (pick w (f ∷ others) others) ≡ lookup id k (f ∷ fs)
       go true ew true ec h eh ih = clash (sym ec ∙ win-no-cancel id r ew)
       go true ew false ec true eh ih = lookup-hit f others ec eh ∙ sym (lookup-hit f fs ec eh)
       go true ew false ec false eh ih = lookup-on f others ec eh ∙ left r ec eh (byRemoval fs) (removal-wins fs) ∙ ih ∙ sym (lookup-on f fs ec eh)
@@ -224,7 +233,8 @@ unfolding byRemoval texts
 removal-free c [] h = tt
 removal-free c (f ∷ fs) h = go (canWin (reading (f .text))) (without-free c (reading (f .text)) (byRemoval fs) (removal-free c fs (h .1)))
   where
-    go : (x : Bool) → AllFree c (texts (without (reading (f .text)) (byRemoval fs))) → AllFree c (texts (pick x (f ∷ without (reading (f .text)) (byRemoval fs)) (without (reading (f .text)) (byRemoval fs))))
+    go : (x : Bool) → AllFree c (texts (without (reading (f .text)) (byRemoval fs))) → AllFree c
+        (texts (pick x (f ∷ without (reading (f .text)) (byRemoval fs)) (without (reading (f .text)) (byRemoval fs))))
     go true k = (h .0, k)
     go false k = k
 
@@ -233,7 +243,8 @@ unfolding without texts size
 without-size r [] = omega arith
 without-size r (f ∷ fs) = go (hides r (reading (f .text))) (without-size r fs)
   where
-    go : (x : Bool) → size (texts (without r fs)) ≤ size (texts fs) → size (texts (pick x (without r fs) (f ∷ without r fs))) ≤ length (f .text) + 1 + size (texts fs)
+    go : (x : Bool) → size (texts (without r fs)) ≤ size (texts fs) → size (texts (pick x (without r fs) (f ∷ without r fs))) ≤ length (f .text) + 1 + size
+        (texts fs)
     go true k = omega arith
     go false k = omega arith
 
@@ -243,7 +254,8 @@ removal-size [] = omega arith
 removal-size (f ∷ fs) = go (canWin (reading (f .text))) (without-size (reading (f .text)) (byRemoval fs)) (removal-size fs)
   where
     go : (x : Bool) → size (texts (without (reading (f .text)) (byRemoval fs))) ≤ size (texts (byRemoval fs)) → size (texts (byRemoval fs)) ≤ size (texts fs)
-        → size (texts (pick x (f ∷ without (reading (f .text)) (byRemoval fs)) (without (reading (f .text)) (byRemoval fs)))) ≤ length (f .text) + 1 + size (texts fs)
+        → size (texts (pick x (f ∷ without (reading (f .text)) (byRemoval fs)) (without (reading (f .text)) (byRemoval fs)))) ≤ length (f .text) + 1 + size
+        (texts fs)
     go true k l = omega arith
     go false k l = omega arith
 

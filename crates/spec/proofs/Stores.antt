@@ -31,7 +31,8 @@ stored-append out at (b ∷ x) y =
     stored-append (set out at b) (suc at) x y ∙ rw e
 
 -- One byte more of a text.
-pub stored-next : (out : List ℕ) (at : ℕ) (text : List ℕ) (i : ℕ) → i < length text → sets out at (take (i + 1) text) ≡ set (sets out at (take i text)) (at + i) (getD text i 0)
+pub stored-next : (out : List ℕ) (at : ℕ) (text : List ℕ) (i : ℕ) → i < length text → sets out at (take (i + 1) text) ≡ set (sets out at (take i text))
+    (at + i) (getD text i 0)
 stored-next out at text i h =
     let whole : i ≤ length text = omega arith in
     rw (add-one i, take-suc text i 0 h, stored-append out at (take i text) (getD text i 0 ∷ []), length-take-le i text whole)

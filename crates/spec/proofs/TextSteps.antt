@@ -14,7 +14,23 @@ use lib.Seq.{drop-cons}
 use mathlib.Core.Logic.{_⊎_, inl, inr}
 use Rattle.spec.specs.declared.Found.the-variants.{At}
 use Rattle.spec.specs.Choice.{pick}
-use Rattle.spec.specs.Lines.{Text, end, byte, join, textAt, lineText, laterLines, linesFrom, firstName, laterNames, blank, comment, isIgnored, hasName, find}
+use Rattle.spec.specs.Lines.{
+  Text,
+  end,
+  byte,
+  join,
+  textAt,
+  lineText,
+  laterLines,
+  linesFrom,
+  firstName,
+  laterNames,
+  blank,
+  comment,
+  isIgnored,
+  hasName,
+  find,
+}
 use Rattle.spec.specs.Lists.{upto, laterPieces, same, among}
 use Rattle.spec.proofs.Tests.{both-false}
 

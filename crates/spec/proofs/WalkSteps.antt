@@ -46,7 +46,8 @@ module _ (db : List ℕ) (seen : List ℕ) (size : ℕ) (missing : Refusal) wher
   -- the line at p is new, and there is room for it
   module _ (n p : ℕ) (room : n < 32) (new : visited p seen ≡ false) where
     step : follow db (32 - n) seen size missing (At p)
-        ≡ entered (seen ++ p ∷ []) (verdict (lineAt db p)) (ltb 16384 (size + lineSize (lineAt db p))) (follow db (32 - (n + 1)) (seen ++ p ∷ []) (size + lineSize (lineAt db p)) LostLink (linkTarget db p (verdict (lineAt db p))))
+        ≡ entered (seen ++ p ∷ []) (verdict (lineAt db p)) (ltb 16384 (size + lineSize (lineAt db p)))
+        (follow db (32 - (n + 1)) (seen ++ p ∷ []) (size + lineSize (lineAt db p)) LostLink (linkTarget db p (verdict (lineAt db p))))
     unfolding follow
     step =
         let z : 32 - n ≡ suc (32 - (n + 1)) = omega arith in
@@ -56,7 +57,8 @@ module _ (db : List ℕ) (seen : List ℕ) (size : ℕ) (missing : Refusal) wher
     unfolding entered
     follow-spoilt e = rw (step, e)
 
-    pub follow-big : (verdict (lineAt db p) ≡ malformedLine → ⊥) → 16384 < size + lineSize (lineAt db p) → follow db (32 - n) seen size missing (At p) ≡ broken ChainTooLarge
+    pub follow-big : (verdict (lineAt db p) ≡ malformedLine → ⊥) → 16384 < size + lineSize (lineAt db p) → follow db (32 - n) seen size missing (At p) ≡
+        broken ChainTooLarge
     unfolding entered
     follow-big e h = rw (step, lt-ltb 16384 (size + lineSize (lineAt db p)) h) (go (verdict (lineAt db p)) refl _)
       where
@@ -65,7 +67,8 @@ module _ (db : List ℕ) (seen : List ℕ) (size : ℕ) (missing : Refusal) wher
         go noLink q more = refl
         go (linkTo name) q more = refl
 
-    pub follow-last : verdict (lineAt db p) ≡ noLink → size + lineSize (lineAt db p) ≤ 16384 → follow db (32 - n) seen size missing (At p) ≡ chain (seen ++ p ∷ [])
+    pub follow-last : verdict (lineAt db p) ≡ noLink → size + lineSize (lineAt db p) ≤ 16384 → follow db (32 - n) seen size missing (At p) ≡ chain
+        (seen ++ p ∷ [])
     unfolding entered
     follow-last e h = rw (step, e, le-ltb 16384 (size + lineSize (lineAt db p)) h)
 

@@ -52,7 +52,8 @@ drop-on : (b : ℕ) (s : List ℕ) (at : ℕ) (l : List ℕ) → b ∷ s ≡ dro
 drop-on b s at l e = rw add-one (drop-tail b s at l e)
 
 module _ (db n : List ℕ) where
-  find-first : (l : Line) (ls : List Line) (p : ℕ) → find n (l ∷ ls) ≡ At p → l .text ≡ lineAt db (l .start) → (find n ls ≡ At p → Holds n (lineAt db p)) → Holds n (lineAt db p)
+  find-first : (l : Line) (ls : List Line) (p : ℕ) → find n (l ∷ ls) ≡ At p → l .text ≡ lineAt db (l .start) → (find n ls ≡ At p → Holds n (lineAt db p)) →
+      Holds n (lineAt db p)
   unfolding find
   find-first l ls p e f ih = go (both (not (isIgnored (l .text))) (hasName n (l .text))) refl e
     where
@@ -64,7 +65,8 @@ module _ (db n : List ℕ) where
           rw (← s, ← f) (ig, w .1)
       go false h q = ih q
 
-  find-byte : (b at p : ℕ) (t : Text) → lineText t ≡ lineAt db at → (find n (laterLines t) ≡ At p → Holds n (lineAt db p)) → find n (laterLines (byte b at t)) ≡ At p → Holds n (lineAt db p)
+  find-byte : (b at p : ℕ) (t : Text) → lineText t ≡ lineAt db at → (find n (laterLines t) ≡ At p → Holds n (lineAt db p)) → find n (laterLines (byte b at t))
+      ≡ At p → Holds n (lineAt db p)
   unfolding laterLines
   find-byte b at p t f ih e = go (eqb b 10) e
     where
@@ -106,7 +108,8 @@ line-over [] s r at h k = k at
 line-over (b ∷ []) s r at h k =
     ap lineText (join-next at b 58 s (omega arith)) ∙ line-next (at + 1) b _ (h .0) ∙ ap (λ (l : List ℕ). b ∷ l) (k (at + 1))
 line-over (b ∷ c ∷ f) s r at h k =
-    ap lineText (join-next at b c (f ++ 58 ∷ s) (h .1 .0)) ∙ line-next (at + 1) b _ (h .0) ∙ ap (λ (l : List ℕ). b ∷ l) (line-over (c ∷ f) s r (at + 1) (h .1) k)
+    ap lineText (join-next at b c (f ++ 58 ∷ s) (h .1 .0)) ∙ line-next (at + 1) b _ (h .0) ∙ ap (λ (l : List ℕ). b ∷ l)
+    (line-over (c ∷ f) s r (at + 1) (h .1) k)
 
 -- the colon itself, before what has no newline but its last byte
 pub line-colon : (s r : List ℕ) (at : ℕ) → lineText (join (at + 1) s) ≡ r → lineText (join at (58 ∷ s)) ≡ 58 ∷ r
@@ -154,7 +157,8 @@ line-shift i j (b ∷ []) = refl
 line-shift i j (b ∷ c ∷ s) = go (both (eqb b 92) (eqb c 10)) (eqb b 10) (line-shift (i + 1 + 1) (j + 1 + 1) s) (line-shift (i + 1) (j + 1) (c ∷ s))
   where
     go : (x y : Bool) → lineText (join (i + 1 + 1) s) ≡ lineText (join (j + 1 + 1) s) → lineText (join (i + 1) (c ∷ s)) ≡ lineText (join (j + 1) (c ∷ s))
-        → lineText (pick x (join (i + 1 + 1) s) (byte b (i + 1) (join (i + 1) (c ∷ s)))) ≡ lineText (pick x (join (j + 1 + 1) s) (byte b (j + 1) (join (j + 1) (c ∷ s))))
+        → lineText (pick x (join (i + 1 + 1) s) (byte b (i + 1) (join (i + 1) (c ∷ s)))) ≡ lineText
+        (pick x (join (j + 1 + 1) s) (byte b (j + 1) (join (j + 1) (c ∷ s))))
     go true y e f = e
     go false y e f = ap (λ (l : List ℕ). pick (eqb b 10) [] (b ∷ l)) f
 

@@ -44,7 +44,8 @@ after-thin : (qs : List Reading) (fs : List Field) → winningAfter qs fs ≡ th
 unfolding winningAfter byRemoval thin
 after-thin qs [] = refl
 after-thin qs (f ∷ fs) =
-    rw (after-thin (reading (f .text) ∷ qs) fs, thin-more (reading (f .text)) qs (byRemoval fs)) (go (canWin (reading (f .text))) (hidden qs (reading (f .text))) refl)
+    rw (after-thin (reading (f .text) ∷ qs) fs, thin-more (reading (f .text)) qs (byRemoval fs))
+    (go (canWin (reading (f .text))) (hidden qs (reading (f .text))) refl)
   where
     others : List Field
     others = without (reading (f .text)) (byRemoval fs)
@@ -118,7 +119,8 @@ either-false false y e = (refl, e)
 
 module _ (id : List ℕ) (k : ℕ) (gs : List Field) where
   -- nothing that was passed stops the lookup
-  lookup-open : (qs : List Reading) (fs : List Field) → stopped id k (readBefore qs fs) ≡ false → (stopped id k qs ≡ false) × (lookup id k (fs ++ gs) ≡ lookup id k gs)
+  lookup-open : (qs : List Reading) (fs : List Field) → stopped id k (readBefore qs fs) ≡ false → (stopped id k qs ≡ false) ×
+      (lookup id k (fs ++ gs) ≡ lookup id k gs)
   unfolding readBefore stopped
   lookup-open qs [] e = (e, refl)
   lookup-open qs (f ∷ fs) e =
@@ -128,20 +130,24 @@ module _ (id : List ℕ) (k : ℕ) (gs : List Field) where
       (w .1, lookup-on id k f (fs ++ gs) (m .0) (m .1) ∙ ih .1)
 
   -- something among the fields stops it
-  lookup-stopped : (qs : List Reading) (fs : List Field) → stopped id k qs ≡ false → stopped id k (readBefore qs fs) ≡ true → lookup id k (fs ++ gs) ≡ lookup id k fs
+  lookup-stopped : (qs : List Reading) (fs : List Field) → stopped id k qs ≡ false → stopped id k (readBefore qs fs) ≡ true → lookup id k (fs ++ gs) ≡ lookup
+      id k fs
   unfolding readBefore stopped
   lookup-stopped qs [] n e = clash (sym e ∙ n)
-  lookup-stopped qs (f ∷ fs) n e = go (matches id 0 (reading (f .text))) refl (matches id k (reading (f .text))) refl (lookup-stopped (reading (f .text) ∷ qs) fs) e
+  lookup-stopped qs (f ∷ fs) n e = go (matches id 0 (reading (f .text))) refl (matches id k (reading (f .text))) refl
+      (lookup-stopped (reading (f .text) ∷ qs) fs) e
     where
       go : (x : Bool) → matches id 0 (reading (f .text)) ≡ x → (y : Bool) → matches id k (reading (f .text)) ≡ y
-          → (stopped id k (reading (f .text) ∷ qs) ≡ false → stopped id k (readBefore (reading (f .text) ∷ qs) fs) ≡ true → lookup id k (fs ++ gs) ≡ lookup id k fs)
+          → (stopped id k (reading (f .text) ∷ qs) ≡ false → stopped id k (readBefore (reading (f .text) ∷ qs) fs) ≡ true → lookup id k (fs ++ gs) ≡ lookup id
+          k fs)
           → stopped id k (readBefore (reading (f .text) ∷ qs) fs) ≡ true
           → lookup id k (f ∷ fs ++ gs) ≡ lookup id k (f ∷ fs)
       go true c y h ih e = lookup-cancel id k f (fs ++ gs) c ∙ sym (lookup-cancel id k f fs c)
       go false c true h ih e = lookup-hit id k f (fs ++ gs) c h ∙ sym (lookup-hit id k f fs c h)
       go false c false h ih e = lookup-on id k f (fs ++ gs) c h ∙ ih (rw (c, h) n) e ∙ sym (lookup-on id k f fs c h)
 
-module _ (before : List Field) (f : Field) (after : List Field) (a b : ℕ) (c : Content) (reads : reading (f .text) ≡ capability a b c) (wins : canWin (reading (f .text)) ≡ true) where
+module _ (before : List Field) (f : Field) (after : List Field) (a b : ℕ) (c : Content) (reads : reading (f .text) ≡ capability a b c)
+    (wins : canWin (reading (f .text)) ≡ true) where
   own : matches (a ∷ b ∷ []) (contentKind c) (reading (f .text)) ≡ true
   unfolding matches
   own = rw (reads, equal-same (a ∷ b ∷ []) (a ∷ b ∷ []) refl, eq-eqb (contentKind c) (contentKind c) refl)
@@ -159,7 +165,8 @@ module _ (before : List Field) (f : Field) (after : List Field) (a b : ℕ) (c :
       let s : stopped (a ∷ b ∷ []) (contentKind c) (readBefore [] before) ≡ false = sym (hidden-capability (readBefore [] before) a b c) ∙ rw (← reads) h in
       rw (append-nil before) at (lookup-open (a ∷ b ∷ []) (contentKind c) [] [] before s .1)
 
-  pub loser-passed : hidden (readBefore [] before) (reading (f .text)) ≡ true → lookup (a ∷ b ∷ []) (contentKind c) (before ++ f ∷ after) ≡ lookup (a ∷ b ∷ []) (contentKind c) before
+  pub loser-passed : hidden (readBefore [] before) (reading (f .text)) ≡ true → lookup (a ∷ b ∷ []) (contentKind c) (before ++ f ∷ after) ≡ lookup
+      (a ∷ b ∷ []) (contentKind c) before
   unfolding stopped
   loser-passed h =
       let s : stopped (a ∷ b ∷ []) (contentKind c) (readBefore [] before) ≡ true = sym (hidden-capability (readBefore [] before) a b c) ∙ rw (← reads) h in

@@ -52,8 +52,11 @@ add-t10 c = search needs
 
 returns-3 : tie.Need-returns-3
 returns-3 c =
-    let before = c .before .before .before .before in
-    (rw (c .before .before .hex-digit .ensures .0, c .hex-digit2 .ensures .0) (text-pair _ _ (before .before .before .before .before .pre) (omega arith) (before .before .if1 .left)), omega arith)
+    let before = c .before .before .before .before in (
+      rw (c .before .before .hex-digit .ensures .0, c .hex-digit2 .ensures .0)
+          (text-pair _ _ (before .before .before .before .before .pre) (omega arith) (before .before .if1 .left)),
+      omega arith,
+    )
 
 pub decode-spec : {M : Type 1} → statement M
 decode-spec =

@@ -1,4 +1,5 @@
--- `case_lines::field_start` meets its contract. The invariant: what is sought stands after as many bars from the place on as are to go, which is the measure. Assumes nothing.
+-- `case_lines::field_start` meets its contract. The invariant: what is sought stands after as many bars from the place on as are to go, which
+-- is the measure. Assumes nothing.
 use Prim.Native.Nat.{_≤_}
 use mathlib.Core.Path.{_≡_, refl, sym, _∙_}
 use native.Mathlib.Omega.{arith}

@@ -1,4 +1,5 @@
--- `case_lines::find` meets its contract. The invariant: the place sought from `i` on is the place sought. The measure is what is left of the text. Assumes nothing.
+-- `case_lines::find` meets its contract. The invariant: the place sought from `i` on is the place sought. The measure is what is left of the
+-- text. Assumes nothing.
 use Prim.Native.Nat.{_≤_, _-_, max}
 use mathlib.Core.Path.{_≡_, refl, sym, _∙_}
 use native.Mathlib.Omega.{arith}

@@ -20,7 +20,11 @@ returns c = let b = c .before .before .args .b in (rw (le-leb 97 b (omega arith)
 
 returns-2 : tie.Need-returns-2
 unfolding hexDigitOf
-returns-2 c = (rw (outside 97 102 (c .before .before .args .b) (λ w. ⊎-elim (λ x. omega arith) (λ x. omega arith) (c .before .if1 .came))) (c .digit .ensures .0), omega arith)
+returns-2 c = (
+  rw (outside 97 102 (c .before .before .args .b) (λ w. ⊎-elim (λ x. omega arith) (λ x. omega arith) (c .before .if1 .came)))
+      (c .digit .ensures .0),
+  omega arith,
+)
 
 pub hex-digit-spec : {M : Type 1} → statement M
 hex-digit-spec = tie.close (tie.spec add-result digit-requires returns returns-2)

@@ -1,4 +1,5 @@
--- `case_lines::number` meets its contract. The invariant: the number so far and what is left of the field make the number. The measure is what is left of the field. Assumes nothing.
+-- `case_lines::number` meets its contract. The invariant: the number so far and what is left of the field make the number. The measure is what
+-- is left of the field. Assumes nothing.
 use Prim.Native.Nat.{_-_}
 use mathlib.Core.Path.{_≡_, sym, _∙_, ap}
 use native.Mathlib.Omega.{arith}

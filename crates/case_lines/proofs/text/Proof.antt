@@ -1,4 +1,5 @@
--- `case_lines::text` meets its contract. The invariant: what is left of the field stands for what is left to store. The measure is what is left of the field. Assumes nothing.
+-- `case_lines::text` meets its contract. The invariant: what is left of the field stands for what is left to store. The measure is what is
+-- left of the field. Assumes nothing.
 use Prim.Native.Nat.{_+_, _≤_, _-_}
 use mathlib.Core.Path.{_≡_, refl, sym, _∙_}
 use native.Mathlib.Omega.{arith}

@@ -46,7 +46,8 @@ is-id-requires c κs = search needs
 
 returns-3 : tie.Need-returns-3
 returns-3 c =
-    let p = rw (c .before .before .before .before .before .before .before .a .given .1) at (c .before .before .before .before .before .before .before .before .before .field-byte .ensures) in
+    let back9 = c .before .before .before .before .before .before .before .before .before in
+    let p = rw (c .before .before .before .before .before .before .before .a .given .1) at (back9 .field-byte .ensures) in
     let q = rw (c .before .before .before .b .given .1) at (c .before .before .before .before .before .field-byte2 .ensures) in
     let no = sym (c .before .is-id .ensures) ∙ not-true _ (c .if1 .taken) in
     (rw (p .0, q .0) (other-no-id _ _ _ no), λ start o. passed-over _ _ _ _ _ _ (passed-over _ _ _ _ _ _ o (p .3)) (q .3))
@@ -60,7 +61,8 @@ read-content-requires c κs =
 
 returns-4 : tie.Need-returns-4
 returns-4 c =
-    let p = rw (c .before .before .before .before .before .before .before .before .a .given .1) at (c .before .before .before .before .before .before .before .before .before .before .field-byte .ensures) in
+    let back10 = c .before .before .before .before .before .before .before .before .before .before in
+    let p = rw (c .before .before .before .before .before .before .before .before .a .given .1) at (back10 .field-byte .ensures) in
     let q = rw (c .before .before .before .before .b .given .1) at (c .before .before .before .before .before .before .field-byte2 .ensures) in
     let yes = sym (c .before .before .is-id .ensures) ∙ not-false _ (c .before .if1 .left) in
     let r = c .read-content .ensures in

@@ -53,7 +53,8 @@ returns c =
 returns-2 : tie.Need-returns-2 Inv-loop μ-loop
 returns-2 c =
     let p = rw (c .before .before .before .b .given .1) at (c .before .before .before .before .before .peek .ensures) in
-    too-long _ _ _ _ (past _ _ _ _ _ (c .before .before .before .before .before .before .loop .inv .1) (ap first (p .0) ∙ Laws.name-on _ _ _ (c .before .match2 .rest .1))) (c .if1 .taken)
+    too-long _ _ _ _ (past _ _ _ _ _ (c .before .before .before .before .before .before .loop .inv .1)
+    (ap first (p .0) ∙ Laws.name-on _ _ _ (c .before .match2 .rest .1))) (c .if1 .taken)
 
 add-k : tie.Need-add-k Inv-loop μ-loop
 add-k c = omega arith
@@ -65,8 +66,11 @@ loop-less c =
 
 loop-again : tie.Need-loop-again Inv-loop μ-loop
 loop-again c =
-    let p = rw (c .before .before .before .b .given .1) at (c .before .before .before .before .before .peek .ensures) in
-    (omega arith, past _ _ _ _ _ (c .before .before .before .before .before .before .loop .inv .1) (ap first (p .0) ∙ Laws.name-on _ _ _ (c .before .match2 .rest .1)))
+    let p = rw (c .before .before .before .b .given .1) at (c .before .before .before .before .before .peek .ensures) in (
+      omega arith,
+      past _ _ _ _ _ (c .before .before .before .before .before .before .loop .inv .1)
+          (ap first (p .0) ∙ Laws.name-on _ _ _ (c .before .match2 .rest .1)),
+    )
 
 enum-told : tie.Need-enum-told Inv-loop μ-loop
 enum-told c = search needs

@@ -47,18 +47,31 @@ loop-less c =
 
 loop-again : tie.Need-loop-again Inv-loop μ-loop
 loop-again c =
-    let p = rw (c .before .before .before .before .before .b .given .1) at (c .before .before .before .before .before .before .before .peek .ensures) in
-    (omega arith, rw (c .before .before .before .before .before .before .before .before .loop .inv .1, p .0, Laws.name-on _ _ _ (c .before .before .before .match2 .rest .1)) (Laws.same-next _ _ _ _ (omega arith) (c .if2 .taken)))
+    let p = rw (c .before .before .before .before .before .b .given .1) at (c .before .before .before .before .before .before .before .peek .ensures) in (
+      omega arith,
+      rw (
+        c .before .before .before .before .before .before .before .before .loop .inv .1,
+        p .0,
+        Laws.name-on _ _ _
+            (c .before .before .before .match2 .rest .1),
+      ) (Laws.same-next _ _ _ _ (omega arith) (c .if2 .taken)),
+    )
 
 returns-2 : tie.Need-returns-2 Inv-loop μ-loop
 returns-2 c =
     let p = rw (c .before .before .before .before .before .b .given .1) at (c .before .before .before .before .before .before .before .peek .ensures) in
-    rw (c .before .before .before .before .before .before .before .before .loop .inv .1, p .0, Laws.name-on _ _ _ (c .before .before .before .match2 .rest .1)) (sym (Laws.same-differs _ _ _ _ (omega arith) (c .if2 .left)))
+    rw (
+      c .before .before .before .before .before .before .before .before .loop .inv .1,
+      p .0,
+      Laws.name-on _ _ _
+          (c .before .before .before .match2 .rest .1),
+    ) (sym (Laws.same-differs _ _ _ _ (omega arith) (c .if2 .left)))
 
 returns-3 : tie.Need-returns-3 Inv-loop μ-loop
 returns-3 c =
     let p = rw (c .before .before .before .b .given .1) at (c .before .before .before .before .before .peek .ensures) in
-    rw (c .before .before .before .before .before .before .loop .inv .1, p .0, Laws.name-on _ _ _ (c .before .match2 .rest .1)) (sym (Laws.same-short _ _ _ _ (omega arith)))
+    rw (c .before .before .before .before .before .before .loop .inv .1, p .0, Laws.name-on _ _ _ (c .before .match2 .rest .1))
+    (sym (Laws.same-short _ _ _ _ (omega arith)))
 
 enum-told : tie.Need-enum-told Inv-loop μ-loop
 enum-told c = search needs

@@ -34,7 +34,11 @@ loop-less : tie.Need-loop-less Inv-loop μ-loop
 loop-less c = omega arith
 
 loop-again : tie.Need-loop-again Inv-loop μ-loop
-loop-again c = (omega arith, c .before .before .before .before .before .before .loop .inv .1 ∙ text-pair _ _ (omega arith) (c .before .before .before .if1 .taken) (c .if3 .taken))
+loop-again c = (
+  omega arith,
+  c .before .before .before .before .before .before .loop .inv .1 ∙ text-pair _ _ (omega arith)
+      (c .before .before .before .if1 .taken) (c .if3 .taken),
+)
 
 returns : tie.Need-returns Inv-loop μ-loop
 returns c = (c .before .before .before .before .before .before .loop .inv .1 ∙ text-slash _ _ (omega arith) (c .if3 .left), omega arith, omega arith)

@@ -27,9 +27,11 @@ names-fit : (c : tie.After-copy-field) → c .copy-field .result ≤ mostFlatByt
 names-fit c = omega (arith, names-short _ _ (start c .pre .3), ap length (first c), c .copy-field .ensures .0)
 
 long : (c : tie.After-slice-known5)
-    → c .before .before .before .before .before .before .write-winning .result + 1 ≡ length (flatOf (start (named c) .args .db .now) (start (named c) .args .c))
+    → c .before .before .before .before .before .before .write-winning .result + 1 ≡ length
+    (flatOf (start (named c) .args .db .now) (start (named c) .args .c))
 long c =
-    rw (first (named c)) (flat-length _ _ _ _ _ _ (named c .copy-field .ensures .0) (c .before .before .before .before .before .before .write-winning .ensures))
+    rw (first (named c)) (flat-length _ _ _ _ _ _ (named c .copy-field .ensures .0)
+    (c .before .before .before .before .before .before .write-winning .ensures))
 
 array-read-copy-field : tie.Need-array-read-copy-field
 array-read-copy-field c = search needs

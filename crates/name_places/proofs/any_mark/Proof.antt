@@ -44,7 +44,8 @@ is-like-requires : tie.Need-is-like-requires
 is-like-requires c κs = search needs
 
 returns-4 : tie.Need-returns-4
-returns-4 c = λ e. settled-marked _ _ (c .before .before .before .before .before .before .before .before .before .args .at) _ _ (c .before .before .before .before .before .before .mark-places .ensures) (omega arith) (omega arith) (λ h. c .is-like .ensures e)
+returns-4 c = λ e. settled-marked _ _ (c .before .before .before .before .before .before .before .before .before .args .at) _ _
+    (c .before .before .before .before .before .before .mark-places .ensures) (omega arith) (omega arith) (λ h. c .is-like .ensures e)
 
 pub any-mark-spec : {M : Type 1} → statement M
 any-mark-spec =

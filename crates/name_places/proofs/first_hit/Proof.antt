@@ -29,7 +29,15 @@ loop-less : tie.Need-loop-less Inv-loop μ-loop
 loop-less c = omega arith
 
 loop-again : tie.Need-loop-again Inv-loop μ-loop
-loop-again c = (omega arith, record { from = omega arith; inside = omega arith; settled = each-one _ (c .before .before .before .loop .inv .1 .settled) (c .before .is-hit .ensures (c .if1 .left)) })
+loop-again c = (
+  omega arith,
+  record {
+    from = omega arith;
+    inside = omega arith;
+    settled = each-one _ (c .before .before .before .loop .inv .1 .settled)
+        (c .before .is-hit .ensures (c .if1 .left));
+  },
+)
 
 returns-2 : tie.Need-returns-2 Inv-loop μ-loop
 returns-2 c = c .before .loop .inv

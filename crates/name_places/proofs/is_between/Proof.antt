@@ -12,8 +12,11 @@ returns : tie.Need-returns
 returns c =
     let separator = c .args .separator in (
       λ e x alone stop.
-          let f = ⊎-elim (λ newline. rw (ne-eqb separator 124 (λ bar. omega arith), eq-eqb separator 10 newline, ne-eqb (c .args .before) 92 (alone newline)) at e) (λ bar. rw (eq-eqb separator 124 bar) at e) x in
-          ⊎-elim (λ newline. true≢false (rw newline at f)) (λ y. ⊎-elim (λ colon. true≢false (rw colon at f)) (λ z. ⊎-elim (λ backslash. true≢false (rw backslash at f)) (λ bar. true≢false (rw bar at f)) z) y) stop,
+          let f = ⊎-elim (λ newline. rw (ne-eqb separator 124 (λ bar. omega arith), eq-eqb separator 10 newline, ne-eqb (c .args .before) 92 (alone newline))
+          at e) (λ bar. rw (eq-eqb separator 124 bar) at e) x in
+          ⊎-elim (λ newline. true≢false (rw newline at f))
+          (λ y. ⊎-elim (λ colon. true≢false (rw colon at f))
+          (λ z. ⊎-elim (λ backslash. true≢false (rw backslash at f)) (λ bar. true≢false (rw bar at f)) z) y) stop,
       is-separator _ _ _,
     )
 

@@ -41,10 +41,18 @@ is-name-requires : tie.Need-is-name-requires
 is-name-requires c κs = search needs
 
 returns-2 : tie.Need-returns-2
-returns-2 c = λ e. record { uncut = λ x y z w. c .before .before .before .before .is-cut .ensures (c .before .before .before .if1 .left) x y z; other = λ x y z. sym (c .is-name .ensures) ∙ e }
+returns-2 c = λ e. record {
+  uncut = λ x y z w. c .before .before .before .before .is-cut .ensures (c .before .before .before .if1 .left) x y z;
+  other = λ x y
+      z. sym (c .is-name .ensures) ∙ e;
+}
 
 returns-3 : tie.Need-returns-3
-returns-3 c = λ e. record { uncut = λ x y z w. c .before .before .before .is-cut .ensures (c .before .before .if1 .left) x y z; other = λ x y z. absurd (c .before .is-long .ensures (c .if2 .left) (x .stops)) }
+returns-3 c = λ e. record {
+  uncut = λ x y z w. c .before .before .before .is-cut .ensures (c .before .before .if1 .left) x y z;
+  other = λ x y z. absurd
+      (c .before .is-long .ensures (c .if2 .left) (x .stops));
+}
 
 returns-4 : tie.Need-returns-4
 returns-4 c = λ e. record { uncut = λ x y z w. c .match .rest .1 (inl x); other = λ x y z. absurd (c .match .rest .1 (x .separator)) }

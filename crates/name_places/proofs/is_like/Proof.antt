@@ -83,7 +83,9 @@ returns-2 c =
     let size = length (a .name .now) in
     let pair = eqb (getD (a .s .now) (a .at + size - 1) 0) 92 || eqb (getD (a .s .now) (a .at + size) 0) 92 in
     let measured = c .before .before .before .before .before .before .before .before .measure in
-    unlike (a .s .now) (a .name .now) (a .at) _ _ (leb size (measured .result)) pair (omega arith) (λ e. too-short _ _ _ _ (measured .ensures) e (omega arith)) (c .before .before .before .before .before .pick .ensures) (c .before .before .before .pick2 .ensures)
+    unlike (a .s .now) (a .name .now) (a .at) _ _ (leb size (measured .result)) pair (omega arith)
+    (λ e. too-short _ _ _ _ (measured .ensures) e (omega arith)) (c .before .before .before .before .before .pick .ensures)
+    (c .before .before .before .pick2 .ensures)
 
 pub is-like-spec : {M : Type 1} → statement M
 is-like-spec =

@@ -96,8 +96,12 @@ loop-again c =
     let fits = c .before .before .before .before .before .before .before .before .is-between in
     let cut = c .before .before .before .before .is-cut in
     let high = c .before .before .higher .ensures in
-    let low = c .higher2 .ensures in
-    (omega arith, marked-more (a .s .now) (a .name .now) (a .at) (l .k) (fits .result) (cut .result) (omega arith) (omega arith) (l .inv .1) (fits .ensures .0) (fits .ensures .1) (cut .ensures) (c .before .before .before .mark-of .ensures) (high .0) (high .1 .0) (high .1 .1) (c .before .mark-of2 .ensures) (low .0) (low .1 .0) (low .1 .1))
+    let low = c .higher2 .ensures in (
+      omega arith,
+      marked-more (a .s .now) (a .name .now) (a .at) (l .k) (fits .result) (cut .result) (omega arith) (omega arith) (l .inv .1)
+          (fits .ensures .0) (fits .ensures .1) (cut .ensures) (c .before .before .before .mark-of .ensures) (high .0) (high .1 .0) (high .1 .1)
+          (c .before .mark-of2 .ensures) (low .0) (low .1 .0) (low .1 .1),
+    )
 
 returns : tie.Need-returns Inv-loop μ-loop
 returns c = let full : c .before .loop .k ≡ 16 = omega arith in rw full at (c .before .loop .inv .1)

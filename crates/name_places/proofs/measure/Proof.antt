@@ -47,8 +47,11 @@ loop-again : tie.Need-loop-again Inv-loop μ-loop
 loop-again c =
     let l = c .before .before .before .before .before .loop in
     let ending = c .before .before .is-ending in
-    let far = c .higher .ensures in
-    (omega arith, far-more _ _ (l .k) (ending .result) (omega arith) (l .inv .1) (ending .ensures .0) (ending .ensures .1) (c .before .mark-of .ensures) (far .0) (far .1 .0) (far .1 .1))
+    let far = c .higher .ensures in (
+      omega arith,
+      far-more _ _ (l .k) (ending .result) (omega arith) (l .inv .1) (ending .ensures .0) (ending .ensures .1) (c .before .mark-of .ensures)
+          (far .0) (far .1 .0) (far .1 .1),
+    )
 
 sub-result : tie.Need-sub-result Inv-loop μ-loop
 sub-result c = let most = c .before .loop .inv .1 .most in omega arith

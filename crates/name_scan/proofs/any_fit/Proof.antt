@@ -79,7 +79,8 @@ loop-again c =
     let test = fits .result || cut .result in (
       omega arith,
       λ e.
-          let settled = settled-unfit (a .s .now) (a .name .now) (a .at + l .k) (fits .result) (cut .result) (omega arith) (fits .ensures .0) (cut .ensures) (or-right (l .hit) test e) in
+          let settled = settled-unfit (a .s .now) (a .name .now) (a .at + l .k) (fits .result) (cut .result) (omega arith) (fits .ensures .0) (cut .ensures)
+          (or-right (l .hit) test e) in
           each-to (a .at + (l .k + 1)) (each-one (a .at + l .k) (l .inv .1 (or-left (l .hit) test e)) settled) (omega arith),
     )
 

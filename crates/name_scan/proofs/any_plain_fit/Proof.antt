@@ -75,7 +75,8 @@ loop-again c =
     let test = start .result && (pair || stop .result) in (
       omega arith,
       λ e.
-          let settled = settled-unended (a .s .now) (a .name .now) (begin .pre .1 .1) (begin .pre .0) (a .at + l .k) (start .result) pair (stop .result) (omega arith) (start .ensures) (eqb-false _ 92) (stop .ensures) (or-right (l .hit) test e) in
+          let settled = settled-unended (a .s .now) (a .name .now) (begin .pre .1 .1) (begin .pre .0) (a .at + l .k) (start .result) pair (stop .result)
+          (omega arith) (start .ensures) (eqb-false _ 92) (stop .ensures) (or-right (l .hit) test e) in
           each-to (a .at + (l .k + 1)) (each-one (a .at + l .k) (l .inv .1 (or-left (l .hit) test e)) settled) (omega arith),
     )
 

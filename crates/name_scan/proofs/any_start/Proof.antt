@@ -46,8 +46,11 @@ loop-again : tie.Need-loop-again Inv-loop μ-loop
 loop-again c =
     let a = c .before .before .before .before .before .before .args in
     let l = c .before .before .before .before .loop in
-    let test = c .is-start .result in
-    (omega arith, λ e. each-to (a .at + (l .k + 1)) (each-one (a .at + l .k) (l .inv .1 (or-left (l .hit) test e)) (c .is-start .ensures (or-right (l .hit) test e))) (omega arith))
+    let test = c .is-start .result in (
+      omega arith,
+      λ e. each-to (a .at + (l .k + 1))
+          (each-one (a .at + l .k) (l .inv .1 (or-left (l .hit) test e)) (c .is-start .ensures (or-right (l .hit) test e))) (omega arith),
+    )
 
 returns : tie.Need-returns Inv-loop μ-loop
 returns c = λ e. each-to (c .before .before .before .args .at + 48) (c .before .loop .inv .1 e) (omega arith)

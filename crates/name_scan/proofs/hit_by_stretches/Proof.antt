@@ -10,7 +10,8 @@ use Rattle.name_scan.proofs.hit_by_stretches.Statement.{statement}
 use Rattle.name_scan.proofs.hit_by_stretches.Tie as tie
 
 abbrev Inv-loop : tie.InvT-loop
-Inv-loop s at name blocks₀ parts₀ len reach plain n₀ i₀ blocks parts n i = (length blocks ≡ 512) × (length parts ≡ 1536) × (0 < n) × (n ≤ 512) × Passed s name at i
+Inv-loop s at name blocks₀ parts₀ len reach plain n₀ i₀ blocks parts n i = (length blocks ≡ 512) × (length parts ≡ 1536) × (0 < n) × (n ≤ 512) × Passed s name
+    at i
 
 abbrev μ-loop : tie.MeasureT-loop
 μ-loop s at name blocks₀ parts₀ len reach plain n₀ i₀ blocks parts n i = length s - i
@@ -22,7 +23,13 @@ is-plain-requires : tie.Need-is-plain-requires Inv-loop μ-loop
 is-plain-requires c κs = tt
 
 loop-holds : tie.Need-loop-holds Inv-loop μ-loop
-loop-holds c = (c .before .before .before .before .before .pre .1 .1 .0, c .before .before .before .before .before .pre .1 .1 .1, omega arith, omega arith, passed-none _ refl (omega arith))
+loop-holds c = (
+  c .before .before .before .before .before .pre .1 .1 .0,
+  c .before .before .before .before .before .pre .1 .1 .1,
+  omega arith,
+  omega arith,
+  passed-none _ refl (omega arith),
+)
 
 sub-loop : tie.Need-sub-loop Inv-loop μ-loop
 sub-loop c = omega arith
@@ -49,13 +56,22 @@ mul-if1 : tie.Need-mul-if1 Inv-loop μ-loop
 mul-if1 c = omega (arith, c .before .before .before .before .before .before .before .fitting .ensures)
 
 same-length : tie.Need-same-length Inv-loop μ-loop
-same-length c = omega (arith, c .before .before .before .before .before .before .before .before .before .before .loop .inv .0, c .before .before .before .before .before .before .before .before .before .before .before .before .before .before .before .before .pre .1 .1 .0)
+same-length c = omega (
+  arith,
+  c .before .before .before .before .before .before .before .before .before .before .loop .inv .0,
+  c .before .before .before .before .before .before .before .before .before .before .before .before .before .before .before .before .pre .1 .1 .0,
+)
 
 same-length-2 : tie.Need-same-length-2 Inv-loop μ-loop
-same-length-2 c = omega (arith, c .before .before .before .before .before .before .before .before .before .before .loop .inv .1, c .before .before .before .before .before .before .before .before .before .before .before .before .before .before .before .before .pre .1 .1 .1)
+same-length-2 c = omega (
+  arith,
+  c .before .before .before .before .before .before .before .before .before .before .loop .inv .1,
+  c .before .before .before .before .before .before .before .before .before .before .before .before .before .before .before .before .pre .1 .1 .1,
+)
 
 returns : tie.Need-returns Inv-loop μ-loop
-returns c = passed-join (c .before .before .before .before .before .before .before .before .before .before .loop .inv .4) (c .before .before .before .before .before .hit-in-stretch .ensures .1)
+returns c = passed-join (c .before .before .before .before .before .before .before .before .before .before .loop .inv .4)
+    (c .before .before .before .before .before .hit-in-stretch .ensures .1)
 
 next-count-requires : tie.Need-next-count-requires Inv-loop μ-loop
 next-count-requires c κs = omega arith

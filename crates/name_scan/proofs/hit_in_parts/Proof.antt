@@ -23,7 +23,8 @@ mul-i : tie.Need-mul-i Inv-loop μ-loop
 mul-i c = let few = c .before .before .before .before .before .pre .1 .1 .1 .1 .few in omega arith
 
 shared-slice-read-i : tie.Need-shared-slice-read-i Inv-loop μ-loop
-shared-slice-read-i c = let few = c .before .before .before .before .before .before .pre .1 .1 .1 .1 .few in omega (arith, c .before .before .before .before .before .before .pre .1 .1 .1 .0)
+shared-slice-read-i c = let few = c .before .before .before .before .before .before .pre .1 .1 .1 .1 .few in omega
+    (arith, c .before .before .before .before .before .before .pre .1 .1 .1 .0)
 
 cast-i : tie.Need-cast-i Inv-loop μ-loop
 cast-i c = let w = c .before .before .before .before .before .before .pre .1 .1 .1 .1 .below (c .before .before .loop .c) (omega arith) in omega arith
@@ -49,8 +50,11 @@ returns c =
     let x = start .pre .1 .1 .1 .1 in
     let l = c .before .before .before .before .loop in
     let w = x .below (l .c) (omega arith) in
-    let p = c .before .hit-in-part .ensures .0 (omega arith) (omega arith) in
-    (omega arith, passed-join (record { from = omega arith; inside = omega arith; settled = settled-before _ _ (start .args .at) _ _ _ x (l .c) (omega arith) (l .inv .1) }) (p .1))
+    let p = c .before .hit-in-part .ensures .0 (omega arith) (omega arith) in (
+      omega arith,
+      passed-join (record
+          { from = omega arith; inside = omega arith; settled = settled-before _ _ (start .args .at) _ _ _ x (l .c) (omega arith) (l .inv .1) }) (p .1),
+    )
 
 add-c : tie.Need-add-c Inv-loop μ-loop
 add-c c = omega arith
@@ -60,7 +64,8 @@ loop-less c = omega arith
 
 loop-again : tie.Need-loop-again Inv-loop μ-loop
 loop-again c =
-    let w = c .before .before .before .before .before .before .before .before .pre .1 .1 .1 .1 .below (c .before .before .before .before .loop .c) (omega arith) in
+    let w = c .before .before .before .before .before .before .before .before .pre .1 .1 .1 .1 .below (c .before .before .before .before .loop .c)
+    (omega arith) in
     let p = c .before .hit-in-part .ensures .0 (omega arith) (omega arith) .1 in
     let q = p .from in
     (omega arith, below-more _ _ (c .before .before .before .before .loop .inv .1) (each-to _ (p .settled) (omega arith)))
@@ -74,8 +79,15 @@ add-result c = omega arith
 returns-2 : tie.Need-returns-2 Inv-loop μ-loop
 returns-2 c =
     let start = c .before .before .before .before .before in
-    let l = c .before .loop in
-    (omega arith, record { from = omega arith; inside = omega arith; settled = each-to _ (settled-all _ _ (start .args .at) _ _ _ (start .pre .1 .1 .1 .1) (λ d h. l .inv .1 d (omega arith))) (omega arith) })
+    let l = c .before .loop in (
+      omega arith,
+      record {
+        from = omega arith;
+        inside = omega arith;
+        settled = each-to _
+            (settled-all _ _ (start .args .at) _ _ _ (start .pre .1 .1 .1 .1) (λ d h. l .inv .1 d (omega arith))) (omega arith);
+      },
+    )
 
 pub hit-in-parts-spec : {M : Type 1} → statement M
 hit-in-parts-spec =

@@ -12,8 +12,16 @@ list-for-requires c κs =
 
 list-parts-requires : tie.Need-list-parts-requires
 list-parts-requires c κs =
-    let p = c .before .before .before .before .before .before .before .before .before .before .pre in
-    (omega arith, (omega arith, (p .1 .1 .0, (omega arith, (omega (arith, p .1 .1 .1 .1 .0), (p .1 .1 .1 .1 .1, c .before .before .before .before .list-for .ensures))))))
+    let p = c .before .before .before .before .before .before .before .before .before .before .pre in (
+      omega arith,
+      (
+        omega arith,
+        (
+          p .1 .1 .0,
+          (omega arith, (omega (arith, p .1 .1 .1 .1 .0), (p .1 .1 .1 .1 .1, c .before .before .before .before .list-for .ensures))),
+        ),
+      ),
+    )
 
 hit-in-parts-requires : tie.Need-hit-in-parts-requires
 hit-in-parts-requires c κs =

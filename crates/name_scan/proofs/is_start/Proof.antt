@@ -11,7 +11,8 @@ is-high-requires : tie.Need-is-high-requires
 is-high-requires c κs = tt
 
 returns : tie.Need-returns
-returns c = not-start (c .before .before .args .b) (c .before .before .args .next) (c .is-high .result) (c .is-high .ensures) (c .before .level .ensures .0) (c .before .level .ensures .1)
+returns c = not-start (c .before .before .args .b) (c .before .before .args .next) (c .is-high .result) (c .is-high .ensures) (c .before .level .ensures .0)
+    (c .before .level .ensures .1)
 
 pub is-start-spec : {M : Type 1} → statement M
 is-start-spec = tie.close (tie.spec level-requires is-high-requires returns)

@@ -35,7 +35,12 @@ loop-less : tie.Need-loop-less Inv-loop μ-loop
 loop-less c = omega arith
 
 loop-again : tie.Need-loop-again Inv-loop μ-loop
-loop-again c = (omega arith, simp length-set (c .before .loop .inv .1), listed-note (c .before .loop .inv .2) (omega (arith, c .before .loop .inv .1)) true (λ e. absurd (true≢false e)))
+loop-again c = (
+  omega arith,
+  simp length-set (c .before .loop .inv .1),
+  listed-note (c .before .loop .inv .2) (omega (arith, c .before .loop .inv .1)) true
+      (λ e. absurd (true≢false e)),
+)
 
 same-length : tie.Need-same-length Inv-loop μ-loop
 same-length c = omega (arith, c .before .loop .inv .1, c .before .before .pre .1)

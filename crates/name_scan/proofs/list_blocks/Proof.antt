@@ -37,7 +37,11 @@ list-rest-requires : tie.Need-list-rest-requires Inv-loop μ-loop
 list-rest-requires c κs = (omega arith, (omega arith, (omega arith, (c .before .before .loop .inv .1, c .before .before .loop .inv .2))))
 
 same-length : tie.Need-same-length Inv-loop μ-loop
-same-length c = omega (arith, c .before .before .before .before .before .loop .inv .1, c .before .before .before .before .before .before .before .before .pre .1 .1)
+same-length c = omega (
+  arith,
+  c .before .before .before .before .before .loop .inv .1,
+  c .before .before .before .before .before .before .before .before .pre .1 .1,
+)
 
 returns : tie.Need-returns Inv-loop μ-loop
 returns c = c .before .before .list-rest .ensures

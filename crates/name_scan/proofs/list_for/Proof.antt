@@ -18,7 +18,8 @@ same-length c = search needs
 returns : tie.Need-returns
 returns c =
     let start = c .before .before .before .before .before .before .before .before in
-    settled-starts _ _ (start .args .at) (start .pre .1 .1 .0 (c .before .before .before .before .if1 .taken)) (omega arith) (c .before .before .list-blocks .ensures)
+    settled-starts _ _ (start .args .at) (start .pre .1 .1 .0 (c .before .before .before .before .if1 .taken)) (omega arith)
+    (c .before .before .list-blocks .ensures)
 
 list-all-requires : tie.Need-list-all-requires
 list-all-requires c κs = search needs

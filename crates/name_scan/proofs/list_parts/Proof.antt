@@ -10,22 +10,29 @@ use Rattle.name_scan.proofs.list_parts.Statement.{statement}
 use Rattle.name_scan.proofs.list_parts.Tie as tie
 
 abbrev Inv-loop : tie.InvT-loop
-Inv-loop s at n name plain blocks count list₀ m₀ c₀ list m c = (c ≤ count) × (length list ≡ 1536) × ((e : ℕ) × (e ≤ n) × Reached blocks c count e × BlocksListed 16 s name at list m (e * 3))
+Inv-loop s at n name plain blocks count list₀ m₀ c₀ list m c = (c ≤ count) × (length list ≡ 1536) ×
+    ((e : ℕ) × (e ≤ n) × Reached blocks c count e × BlocksListed 16 s name at list m (e * 3))
 
 abbrev μ-loop : tie.MeasureT-loop
 μ-loop s at n name plain blocks count list₀ m₀ c₀ list m c = count - c
 
 loop-holds : tie.Need-loop-holds Inv-loop μ-loop
-loop-holds c = (omega arith, c .before .before .before .before .pre .1 .1 .1 .1 .1 .0, (0, omega arith, reached-none (c .before .before .before .before .args .at) (c .before .before .before .before .pre .1 .1 .1 .1 .1 .1), listed-none))
+loop-holds c = (
+  omega arith,
+  c .before .before .before .before .pre .1 .1 .1 .1 .1 .0,
+  (0, omega arith, reached-none (c .before .before .before .before .args .at) (c .before .before .before .before .pre .1 .1 .1 .1 .1 .1), listed-none),
+)
 
 mul-block : tie.Need-mul-block Inv-loop μ-loop
 mul-block c = let few = c .before .before .before .before .before .before .pre .1 .1 .1 .1 .1 .1 .few in omega arith
 
 shared-slice-read-block : tie.Need-shared-slice-read-block Inv-loop μ-loop
-shared-slice-read-block c = let few = c .before .before .before .before .before .before .before .pre .1 .1 .1 .1 .1 .1 .few in omega (arith, c .before .before .before .before .before .before .before .pre .1 .1 .1 .1 .0)
+shared-slice-read-block c = let few = c .before .before .before .before .before .before .before .pre .1 .1 .1 .1 .1 .1 .few in omega
+    (arith, c .before .before .before .before .before .before .before .pre .1 .1 .1 .1 .0)
 
 cast-block : tie.Need-cast-block Inv-loop μ-loop
-cast-block c = let w = c .before .before .before .before .before .before .before .pre .1 .1 .1 .1 .1 .1 .below (c .before .before .loop .c) (omega arith) in omega arith
+cast-block c = let w = c .before .before .before .before .before .before .before .pre .1 .1 .1 .1 .1 .1 .below (c .before .before .loop .c) (omega arith) in
+    omega arith
 
 list-three-requires : tie.Need-list-three-requires Inv-loop μ-loop
 list-three-requires c κs =
@@ -34,8 +41,23 @@ list-three-requires c κs =
     let l = c .before .before .before .loop in
     let e = l .inv .2 in
     let w = x .below (l .c) (omega arith) in
-    let ahead = e .2 .ahead (l .c) (omega arith) (omega arith) in
-    (start .pre .0, (omega arith, (start .pre .1 .1 .0, (omega arith, (l .inv .1, parts-to (start .args .at) x _ ahead (omega arith) (e .2) (λ d h g. rising-from (start .args .at) x (l .c) d h g) (e .3))))))
+    let ahead = e .2 .ahead (l .c) (omega arith) (omega arith) in (
+      start .pre .0,
+      (
+        omega arith,
+        (
+          start .pre .1 .1 .0,
+          (
+            omega arith,
+            (
+              l .inv .1,
+              parts-to (start .args .at) x _ ahead (omega arith) (e .2) (λ d h g. rising-from (start .args .at) x (l .c) d h g)
+                  (e .3),
+            ),
+          ),
+        ),
+      ),
+    )
 
 add-c : tie.Need-add-c Inv-loop μ-loop
 add-c c = omega arith
@@ -51,8 +73,11 @@ loop-again c =
     let e = l .inv .2 in
     let w = x .below (l .c) (omega arith) in
     let block = getD (start .args .blocks .now) (l .c) 0 in
-    let three : block * 3 + 3 ≡ (block + 1) * 3 = omega arith in
-    (omega arith, omega (arith, l .inv .1), (block + 1, omega arith, reached-more (start .args .at) x (e .2) (omega arith), rw three at (c .before .before .list-three .ensures)))
+    let three : block * 3 + 3 ≡ (block + 1) * 3 = omega arith in (
+      omega arith,
+      omega (arith, l .inv .1),
+      (block + 1, omega arith, reached-more (start .args .at) x (e .2) (omega arith), rw three at (c .before .before .list-three .ensures)),
+    )
 
 same-length : tie.Need-same-length Inv-loop μ-loop
 same-length c = omega (arith, c .before .loop .inv .1, c .before .before .before .before .before .before .pre .1 .1 .1 .1 .1 .0)

@@ -43,8 +43,12 @@ loop-again : tie.Need-loop-again Inv-loop μ-loop
 loop-again c =
     let l = c .before .before .before .before .before .before .loop in
     let few = l .inv .2 .few in
-    let n = c .before .before .note in
-    (omega arith, omega (arith, l .inv .1), noted _ (l .inv .2) (omega (arith, l .inv .1)) (λ e. each-in (c .before .before .before .before .any-start .ensures e) (omega arith) (omega arith)) (n .ensures .0) (n .ensures .1) refl)
+    let n = c .before .before .note in (
+      omega arith,
+      omega (arith, l .inv .1),
+      noted _ (l .inv .2) (omega (arith, l .inv .1))
+          (λ e. each-in (c .before .before .before .before .any-start .ensures e) (omega arith) (omega arith)) (n .ensures .0) (n .ensures .1) refl,
+    )
 
 same-length : tie.Need-same-length Inv-loop μ-loop
 same-length c = omega (arith, c .before .loop .inv .1, c .before .before .before .before .pre .1 .1 .1 .0)

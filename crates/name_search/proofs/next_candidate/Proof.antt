@@ -42,8 +42,13 @@ add-line-of c =
 
 line-of-requires : tie.Need-line-of-requires
 line-of-requires c κs =
-    let p = c .before .before .before .before .before .next-hit .ensures .0 (omega arith) (omega arith) in
-    (omega (arith, p .from), (omega arith, c .before .before .before .before .before .before .before .before .before .before .before .before .before .before .before .pre .1 (omega arith)))
+    let p = c .before .before .before .before .before .next-hit .ensures .0 (omega arith) (omega arith) in (
+      omega (arith, p .from),
+      (
+        omega arith,
+        c .before .before .before .before .before .before .before .before .before .before .before .before .before .before .before .pre .1 (omega arith),
+      ),
+    )
 
 same-length : tie.Need-same-length
 same-length c = search needs
@@ -54,7 +59,8 @@ same-length-2 c = search needs
 returns-4 : tie.Need-returns-4
 returns-4 c =
     let p = c .before .before .before .before .before .before .next-hit .ensures .0 (omega arith) (omega arith) in
-    passed-line (omega arith) (c .before .before .before .before .before .before .before .before .before .before .before .before .before .before .before .before .pre .1 (omega arith)) (p .settled) _ (omega arith) (c .line-of .ensures)
+    passed-line (omega arith) (c .before .before .before .before .before .before .before .before .before .before .before .before .before .before .before .before .pre .1
+    (omega arith)) (p .settled) _ (omega arith) (c .line-of .ensures)
 
 same-length-3 : tie.Need-same-length-3
 same-length-3 c = search needs
@@ -65,7 +71,8 @@ same-length-4 c = search needs
 returns-5 : tie.Need-returns-5
 returns-5 c =
     let p = c .before .before .before .before .before .next-hit .ensures .0 (omega arith) (omega arith) in
-    passed-all (omega arith) (c .before .before .before .before .before .before .before .before .before .before .before .before .before .before .before .pre .1 (omega arith)) (p .settled) (omega arith) (omega (arith, p .inside))
+    passed-all (omega arith) (c .before .before .before .before .before .before .before .before .before .before .before .before .before .before .before .pre .1
+    (omega arith)) (p .settled) (omega arith) (omega (arith, p .inside))
 
 pub next-candidate-spec : {M : Type 1} → statement M
 next-candidate-spec =

@@ -80,7 +80,8 @@ missed c =
     (c .if1 .came)
 
 module _ (c : tie.After-line-end Inv-loop μ-loop Inv-lines μ-lines) where
-  ended : EndOf (c .before .before .before .before .before .before .before .before .args .db .now) (c .before .before .before .lines .at) (c .line-end .result)
+  ended : EndOf (c .before .before .before .before .before .before .before .before .args .db .now) (c .before .before .before .lines .at)
+      (c .line-end .result)
   ended = rw (c .line-end .ensures) (end-of _ _ (c .before .before .before .lines .inv .0) (c .before .before .before .lines .inv .1))
 
   came :

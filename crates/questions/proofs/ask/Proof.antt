@@ -38,7 +38,8 @@ shared-slice-read-look-up c =
 
 shared-slice-read-look-up-2 : tie.Need-shared-slice-read-look-up-2
 shared-slice-read-look-up-2 c =
-    let i = sym (c .before .before .before .before .before .before .is-good-id .ensures) ∙ not-false _ (c .before .before .before .before .before .if1 .left) in
+    let i = sym (c .before .before .before .before .before .before .is-good-id .ensures) ∙ not-false _
+    (c .before .before .before .before .before .if1 .left) in
     omega (arith, id-length _ i)
 
 look-up-requires : tie.Need-look-up-requires

@@ -1,4 +1,5 @@
--- `read_cases::add_bytes` meets its contract. The invariant: the place after what was added lies in the space. The measure is what is left to add. Assumes nothing.
+-- `read_cases::add_bytes` meets its contract. The invariant: the place after what was added lies in the space. The measure is what is left to
+-- add. Assumes nothing.
 use Prim.Native.Nat.{_≤_, _-_}
 use native.Mathlib.Omega.{arith}
 use borrow.Author.Needs.{needs}

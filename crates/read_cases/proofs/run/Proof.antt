@@ -1,4 +1,5 @@
--- `read_cases::run` is safe and ends. The invariant: there are no more lines than bytes, and the database lies in the space. The measure is what is left of the input. Assumes nothing.
+-- `read_cases::run` is safe and ends. The invariant: there are no more lines than bytes, and the database lies in the space. The measure is
+-- what is left of the input. Assumes nothing.
 use Prim.Native.Nat.{_≤_, _-_}
 use native.Mathlib.Omega.{arith}
 use borrow.Author.Needs.{needs}

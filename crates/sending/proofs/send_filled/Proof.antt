@@ -136,7 +136,8 @@ returns-5 c =
     let again = rw (back12 .before .before .before .before .both-unused .ensures) at (c .before .before .before .before .before .before .fill-in2 .ensures) in
     let first = written _ (f .0) _ (a .out .now) (c .before .before .before .before .before .before .fill-in2 .result) _ (f .1) (f .2) inside again in
     rw (sends-body _ (a .pads) (a .pad) (f .0) (f .1))
-    (fits (f .0) (a .out .now) _ (a .pads) (a .pad) (sym (f .2)) (omega (arith, inside, c .before .before .before .before .before .before .before .before .if2 .left)) _
+    (fits (f .0) (a .out .now) _ (a .pads) (a .pad) (sym (f .2))
+    (omega (arith, inside, c .before .before .before .before .before .before .before .before .if2 .left)) _
     (after-pads (f .0) (a .out .now) (c .before .before .before .before .before .before .fill-in2 .last .1 .1 .1 .1 .1 .0)
     (c .before .before .write-pads .last .0) _ (a .pads) (a .pad) (sym (f .2)) inside first (c .before .before .write-pads .ensures)))
 
