@@ -9,10 +9,10 @@ struct parameter {
     int value;
 };
 
-/* What is written, and the raised bytes' axes in their order. */
+/* What is written, and the axis of each step by which a byte was raised, in their order. */
 struct filling {
     uint8_t *out;
-    enum axis raised[2];
+    enum axis raised[4];
     int raised_count;
     int raises[2];
 };
@@ -68,7 +68,7 @@ static uint8_t *put_decimal(uint8_t *out, int value, int least)
 
 static void put_byte(struct filling *to, struct parameter parameter, uint8_t byte)
 {
-    if ((byte == 0 || byte == 9 || byte == 10) && to->raises[parameter.axis]) {
+    while ((byte == 0 || byte == 4 || byte == 9 || byte == 10) && to->raises[parameter.axis]) {
         byte++;
         to->raised[to->raised_count++] = parameter.axis;
     }
@@ -157,7 +157,7 @@ size_t plain_send_at(const uint8_t *command, size_t command_len, int row, int co
 {
     unsigned delay;
     size_t from = read_prefix(command, command_len, line_count, &delay);
-    struct filling to = { out, { ROW, ROW }, 0, { up_len > 0, up_len > 0 || back_len > 0 } };
+    struct filling to = { out, { ROW }, 0, { up_len > 0, up_len > 0 || back_len > 0 } };
     int i;
 
     fill(&to, command + from, command + command_len, row, column);

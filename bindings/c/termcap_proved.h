@@ -161,9 +161,10 @@ uint32_t termcap_send(const uint8_t *command, size_t command_len, uint64_t line_
 
 /*
  * Send at: as Send, with the position filled into the body. `row` and `column` count from 0, up to
- * 9,999. Where a byte of the position would be 0, 9 or 10 it is raised by one, and after the body
- * follows `back` for a column and `up` for a row, as they stand. Both empty: nothing is raised. Only
- * `back` empty: byte 8 stands for it. Only `up` empty: rows aren't raised.
+ * 9,999. Where a byte of the position would be 0, 4, 9 or 10 it is raised until it is none of these,
+ * and after the body follows for each step `back` for a column and `up` for a row, as they stand.
+ * Both empty: nothing is raised. Only `back` empty: byte 8 stands for it. Only `up` empty: rows
+ * aren't raised.
  *
  * A padding prefix of `back` or `up` would be sent, too, and show on the screen. So a string of the
  * terminal (`le`, `up`) goes through termcap_send first, for one line at speed 0, which gives it

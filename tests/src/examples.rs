@@ -651,20 +651,21 @@ fn changes() -> Vec<Example> {
 fn raising() -> Vec<Example> {
     let both = |command: &[u8], row, column| stepping(command, row, column, b"<", b"^^");
     vec![
-        example("0, 9 and 10 as columns", both(b"%+A%.", 0, 0), bytes(b"A\x01<")),
-        example("9 becomes 10", both(b"%+A%.", 0, 9), bytes(b"A\x0a<")),
+        example("0 becomes 1", both(b"%+A%.", 0, 0), bytes(b"A\x01<")),
+        example("4 becomes 5", both(b"%+A%.", 0, 4), bytes(b"A\x05<")),
+        example("9 becomes 11 with two", both(b"%+A%.", 0, 9), bytes(b"A\x0b<<")),
         example("10 becomes 11", both(b"%+A%.", 0, 10), bytes(b"A\x0b<")),
-        example("after c was added", both(b"%+\x08%+\x01", 1, 9), bytes(b"\x0a\x0b^^<")),
+        example("after c was added", both(b"%+\x08%+\x01", 1, 9), bytes(b"\x0b\x0b^^^^<")),
         example("8 and 11 stay", both(b"%.%.", 8, 11), bytes(&[8, 11])),
-        example("4 and 13 stay", both(b"%.%.", 4, 13), bytes(&[4, 13])),
+        example("5 and 13 stay", both(b"%.%.", 5, 13), bytes(&[5, 13])),
         example(
             "in the order of the raised bytes",
             both(b"%r%.%.x", 9, 10),
-            bytes(b"\x0b\x0ax<^^"),
+            bytes(b"\x0b\x0bx<^^^^"),
         ),
         example("decimals aren't raised", both(b"%d%2", 0, 9), bytes(b"009")),
         example("both strings empty", stepping(b"%.%.", 0, 9, b"", b""), bytes(&[0, 9])),
-        example("only back empty", stepping(b"%.%.", 0, 9, b"", b"U"), bytes(b"\x01\x0aU\x08")),
+        example("only back empty", stepping(b"%.%.", 0, 9, b"", b"U"), bytes(b"\x01\x0bU\x08\x08")),
         example("only up empty", stepping(b"%.%.", 9, 10, b"B", b""), bytes(b"\x09\x0bB")),
         example(
             "only up empty, exchanged",

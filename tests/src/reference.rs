@@ -753,13 +753,13 @@ impl Filling<'_> {
         let parameter = self.use_up()?;
         let sum = parameter.value + i64::from(added);
         let byte = u8::try_from(sum).map_err(|_| OUT_OF_RANGE)?;
-        // "If a byte from `%.` or `%+` would be 0, 9 or 10 it is raised by one".
-        if matches!(byte, 0 | 9 | 10) && self.raises(parameter.axis) {
-            self.output.push(byte + 1);
+        // Ask 1: "raised until it is none of these, with one compensation for each step".
+        let mut byte = byte;
+        while matches!(byte, 0 | 4 | 9 | 10) && self.raises(parameter.axis) {
+            byte += 1;
             self.compensate(parameter.axis);
-        } else {
-            self.output.push(byte);
         }
+        self.output.push(byte);
         Ok(())
     }
 

@@ -286,8 +286,9 @@ impl Default for Line {
 
 /// A position on the screen, and how the cursor is brought back to it from a step beyond.
 ///
-/// A position byte of 0, 9 or 10 may not survive the way to the terminal. It is sent as one more,
-/// and the cursor is then moved back: by `back` for a column, by `up` for a row.
+/// A position byte of 0, 4, 9 or 10 may not survive the way to the terminal. It is raised until it
+/// is none of these, and the cursor is then moved back, once for each step: by `back` for a column,
+/// by `up` for a row.
 ///
 /// Both are sent as they stand. A terminal's string may begin with padding, whose digits would show
 /// on the screen; [`send`] at speed 0 gives the string without it:
@@ -355,7 +356,8 @@ pub fn send_into(command: impl AsRef<[u8]>, line: &Line, out: &mut [u8]) -> Resu
 /// ```
 /// # use termcap_proved::{send_at, Line, Position};
 /// let position = Position { row: 3, column: 9, back: b"\x08", up: b"\x1B[A" };
-/// assert_eq!(send_at("\x14%.%.", &position, &Line::default()), Ok(b"\x14\x03\x0A\x08".to_vec()));
+/// let sent = send_at("\x14%.%.", &position, &Line::default());
+/// assert_eq!(sent, Ok(b"\x14\x03\x0B\x08\x08".to_vec()));
 /// ```
 pub fn send_at(
     command: impl AsRef<[u8]>,
@@ -364,9 +366,9 @@ pub fn send_at(
 ) -> Result<Vec<u8>, Refusal> {
     let command = command.as_ref();
     // Each of the two parameters is written once, from a sequence of at least two bytes: as a
-    // decimal of at most five digits, or as a byte with its compensation, which is the string or
-    // one byte 8.
-    let filled = command.len() + 2 * 3 + position.back.len() + position.up.len() + 1;
+    // decimal of at most five digits, or as a byte with at most two compensations, each the
+    // string or one byte 8.
+    let filled = command.len() + 2 * 3 + 2 * (position.back.len() + position.up.len() + 1);
     grown(filled, |out| send_at_into(command, position, line, out))
 }
 

@@ -194,6 +194,17 @@ fn raised_bytes_are_compensated() {
 }
 
 #[test]
+fn a_byte_is_raised_past_4_9_and_10() {
+    let at = |row, column| {
+        let position = Position { row, column, back: b"<", up: b"^" };
+        send_at("%.%.", &position, &SLOW).unwrap()
+    };
+    assert_eq!(at(4, 9), b"\x05\x0B^<<");
+    assert_eq!(at(9, 4), b"\x0B\x05^^<");
+    assert_eq!(at(3, 11), b"\x03\x0B");
+}
+
+#[test]
 fn padding() {
     let pads = |command: &str, lines, speed| {
         send(command, &Line { lines, speed, pad: b'.' }).map(|bytes| bytes.len())
@@ -283,15 +294,15 @@ fn padding_of_motions_is_taken_off_first() {
     assert_eq!(bare_back, b"\x08");
     assert_eq!(bare_up, b"\x1B[A");
 
-    // Row 10 and column 9 are each raised by one: the cursor goes up, then back. The 4 milliseconds
-    // are 3.84 bytes at 9,600 bits a second.
+    // Row 10 is raised by one, column 9 by two: the cursor goes up, then back twice. The 4
+    // milliseconds are 3.84 bytes at 9,600 bits a second.
     let at = |back, up| {
         let position = Position { row: 10, column: 9, back, up };
         send_at(string("cm"), &position, &Line::default()).unwrap()
     };
-    assert_eq!(at(&bare_back, &bare_up), b"\x14\x0B\x0A\x1B[A\x08\0\0\0\0");
+    assert_eq!(at(&bare_back, &bare_up), b"\x14\x0B\x0B\x1B[A\x08\x08\0\0\0\0");
     // As they stand, the digits are sent, too.
-    assert_eq!(at(&back, &up), b"\x14\x0B\x0A3.5\x1B[A2\x08\0\0\0\0");
+    assert_eq!(at(&back, &up), b"\x14\x0B\x0B3.5\x1B[A2\x082\x08\0\0\0\0");
 }
 
 #[test]

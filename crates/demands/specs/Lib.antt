@@ -1,5 +1,6 @@
 pub mod Demand1
 pub mod Padding
+pub mod Raising
 pub mod Winning
 pub mod Demand3
 pub mod Limits

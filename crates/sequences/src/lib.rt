@@ -34,7 +34,7 @@ const WIDE_ZERO: u32 = 32768;
 
 // ---- the byte that is sent
 
-// "If a byte from `%.` or `%+` would be 0, 9 or 10 it is raised by one."
+// "A byte ... that is 0, 4, 9 or 10 is raised until it is none of these, with one compensation for each step."
 fn raise(b: u8) -> Raised
     ensures { λ r. ⌜ r ≡ raised b ⌝ }
 {
@@ -43,9 +43,13 @@ fn raise(b: u8) -> Raised
             byte: 1,
             compensations: 1,
         },
-        9 => Raised {
-            byte: 10,
+        4 => Raised {
+            byte: 5,
             compensations: 1,
+        },
+        9 => Raised {
+            byte: 11,
+            compensations: 2,
         },
         10 => Raised {
             byte: 11,

@@ -113,12 +113,22 @@ positionRulings =
     ∷ example (sendAt (ascii "%D%.") 9 0 back up 1) (refuses 12 1)
     ∷ example (sendAt (ascii "%D%n") 9 0 [] [] 1) (refuses 12 1)
     ∷ example (sendAt (ascii "%B%B%B") 9999 0 [] [] 1) (refuses 12 1)
-    -- raised by one, compensated in order and by type; the three rules on empty strings
-    ∷ example (sendAt (ascii "%.%.x") 0 9 back up 6) (reports (6 ∷ []) (1 ∷ 10 ∷ ascii "xUbk") 0)
-    ∷ example (sendAt (ascii "%r%.%.x") 0 9 back up 6) (reports (6 ∷ []) (10 ∷ 1 ∷ ascii "xbkU") 0)
-    ∷ example (sendAt (ascii "%.%.x") 0 9 [] up 5) (reports (5 ∷ []) (1 ∷ 10 ∷ ascii "xU" ++ (8 ∷ [])) 0)
-    ∷ example (sendAt (ascii "%.%.x") 0 9 back [] 5) (reports (5 ∷ []) (0 ∷ 10 ∷ ascii "xbk") 0)
+    -- raised until it is none of 0, 4, 9 and 10, compensated in order and by type; the three rules on empty strings
+    ∷ example (sendAt (ascii "%.%.x") 0 9 back up 8) (reports (8 ∷ []) (1 ∷ 11 ∷ ascii "xUbkbk") 0)
+    ∷ example (sendAt (ascii "%.%.x") 9 0 back up 7) (reports (7 ∷ []) (11 ∷ 1 ∷ ascii "xUUbk") 0)
+    ∷ example (sendAt (ascii "%.%.x") 4 10 back up 6) (reports (6 ∷ []) (5 ∷ 11 ∷ ascii "xUbk") 0)
+    ∷ example (sendAt (ascii "%.%.x") 8 11 back up 3) (reports (3 ∷ []) (8 ∷ 11 ∷ ascii "x") 0)
+    ∷ example (sendAt (ascii "%r%.%.x") 0 9 back up 8) (reports (8 ∷ []) (11 ∷ 1 ∷ ascii "xbkbkU") 0)
+    ∷ example (sendAt (ascii "%.%.x") 0 9 [] up 6) (reports (6 ∷ []) (1 ∷ 11 ∷ ascii "xU" ++ (8 ∷ 8 ∷ [])) 0)
+    ∷ example (sendAt (ascii "%.%.x") 4 9 back [] 7) (reports (7 ∷ []) (4 ∷ 11 ∷ ascii "xbkbk") 0)
     ∷ example (sendAt (ascii "%.%.x") 0 9 [] [] 3) (reports (3 ∷ []) (0 ∷ 9 ∷ ascii "x") 0)
+    -- the byte to be sent counts, after c was added; the range test comes before raising
+    ∷ example (sendAt (4 ∷ ascii "%+" ++ (4 ∷ ascii "%+" ++ (9 ∷ []))) 5 0 back up 9) (reports (9 ∷ []) (4 ∷ 11 ∷ 11 ∷ ascii "UUbkbk") 0)
+    ∷ example (sendAt (ascii "%.") 256 0 back up 1) (refuses 12 1)
+    -- digits and compensations are not looked at
+    ∷ example (sendAt (ascii "%d%.") 0 0 (10 ∷ []) up 3) (reports (3 ∷ []) (48 ∷ 1 ∷ 10 ∷ []) 0)
+    -- two compensations and a buffer one short
+    ∷ example (sendAt (ascii "%.%.x") 0 9 back up 7) (refuses 9 7)
     ∷ []
 
 -- ---- padding and the order of Send

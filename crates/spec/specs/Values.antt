@@ -2,7 +2,7 @@
 --
 -- VALUES ARE HELD WITH AN OFFSET: a value v of -32,768..32,767 is held as the number h = v + 32,768 of 0..65,535. So a value is negative
 -- where h < 32,768, and above the range where 65,536 ≤ h. No change lowers a negative value, so none falls below the range.
-use Prim.Native.Nat.{ℕ, _+_, _-_, _*_, _/_, _%_}
+use Prim.Native.Nat.{ℕ, zero, suc, _+_, _-_, _*_, _/_, _%_}
 use mathlib.Core.Bool.{Bool}
 use lib.Dec.{eqb, leb, ltb}
 use lib.Bits.{bitXor}
@@ -34,12 +34,22 @@ plainValue h = h - 32768
 
 -- ---- the byte that is sent
 
--- "If a byte from `%.` or `%+` would be 0, 9 or 10 it is raised by one", with one compensation.
+-- Ask 1: the bytes that are not sent for a parameter.
+abbrev pub avoided : ℕ → Bool
+avoided b = either (eqb b 0) (either (eqb b 4) (either (eqb b 9) (eqb b 10)))
+
+-- "Raised until it is none of these, with one compensation for each step": so many steps at most, after so many.
+unfoldable pub raisedFrom : ℕ → ℕ → ℕ → Raised
+raisedFrom zero steps b = record { byte = b; compensations = steps }
+raisedFrom (suc more) steps b = pick (avoided b) (raisedFrom more (steps + 1) (b + 1)) (record { byte = b; compensations = steps })
+
+-- The most compensations that one byte asks for: "9 becomes 11 with two". (`demands/proofs/Raising`: so many steps are enough.)
+abbrev pub mostCompensations : ℕ
+mostCompensations = 2
+
+-- "A byte from `%.` or `%+` that is 0, 4, 9 or 10 is raised until it is none of these."
 unfoldable pub raised : ℕ → Raised
-raised b =
-    pick (either (eqb b 0) (either (eqb b 9) (eqb b 10)))
-    (record { byte = b + 1; compensations = 1 })
-    (record { byte = b; compensations = 0 })
+raised b = raisedFrom mostCompensations 0 b
 
 -- Whether a parameter's byte is raised at all: by its axis.
 abbrev pub raises : Raising → Parameter → Bool

@@ -33,7 +33,10 @@ fn main() -> ExitCode {
             return ExitCode::FAILURE;
         }
     }
-    println!("long_commands: {} commands of up to {MOST} bytes on a stack of {STACK}", COMMANDS.len());
+    println!(
+        "long_commands: {} commands of up to {MOST} bytes on a stack of {STACK}",
+        COMMANDS.len()
+    );
     ExitCode::SUCCESS
 }
 

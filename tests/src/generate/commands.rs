@@ -169,7 +169,7 @@ fn output(random: &mut Random, case: &Case, body: &mut Vec<u8>) {
 }
 
 /// Bytes to be sent that are raised, stand beside those, or are the last ones allowed.
-const EDGE_SUMS: [u64; 13] = [0, 0, 9, 9, 10, 10, 4, 8, 11, 254, 255, 255, 256];
+const EDGE_SUMS: [u64; 15] = [0, 0, 4, 4, 9, 9, 10, 10, 3, 5, 8, 11, 254, 255, 256];
 
 /// A byte whose sum with a parameter is likely to be raised, or to leave 0..255.
 fn addend(random: &mut Random, case: &Case) -> u8 {
@@ -194,7 +194,7 @@ fn raising(random: &mut Random, case: &Case) -> Vec<u8> {
         values.swap(0, 1);
     }
     for value in values {
-        let raised = random.pick_value(&[0, 9, 10]);
+        let raised = random.pick_value(&[0, 4, 9, 10]);
         if raised < value || random.chance(30) {
             body.extend_from_slice(b"%.");
         } else if random.chance(75) {
