@@ -11,20 +11,21 @@
 
 #include "termcap_proved.h"
 
-enum { STACK = 1 << 20, PAINT = 0xA5, CALLS = 8 };
-enum { NONE = CALLS };
+enum { STACK = 1 << 20, PAINT = 0xA5 };
+enum { SHOW, FLAG, NUMBER, STRING, LIST, FLAT, REPAIR, SEND, SEND_AT, CALLS, NONE = CALLS };
 
 static uint8_t stack[STACK] __attribute__((aligned(4096)));
-static uint8_t db[1048576], out[1 << 17], command[16384];
+static uint8_t db[1048576], mended[1048576], out[1 << 17], command[16384];
 static size_t db_len, command_len;
 static const char *name = "";
 
-static const char *const calls[CALLS] = {"show", "flag", "number", "string",
-                                         "list", "flat", "send",   "send_at"};
+static const char *const calls[CALLS] = {"show", "flag",   "number", "string", "list",
+                                         "flat", "repair", "send",   "send_at"};
 static const size_t most[CALLS] = {TERMCAP_STACK_SHOW,     TERMCAP_STACK_QUESTION,
                                    TERMCAP_STACK_QUESTION, TERMCAP_STACK_QUESTION,
                                    TERMCAP_STACK_LIST,     TERMCAP_STACK_LIST,
-                                   TERMCAP_STACK_SEND,     TERMCAP_STACK_SEND};
+                                   TERMCAP_STACK_REPAIR,   TERMCAP_STACK_SEND,
+                                   TERMCAP_STACK_SEND};
 static size_t measured[CALLS];
 
 static void *call(void *which)
@@ -33,14 +34,17 @@ static void *call(void *which)
     size_t n_len = strlen(name);
     uint64_t x, y;
     switch (*(int *)which) {
-    case 0: termcap_show(db, db_len, n, n_len, &x, &y); break;
-    case 1: termcap_flag(db, db_len, n, n_len, id, 2, &x); break;
-    case 2: termcap_number(db, db_len, n, n_len, id, 2, &x); break;
-    case 3: termcap_string(db, db_len, n, n_len, id, 2, out, sizeof out, &x); break;
-    case 4: termcap_list(db, db_len, n, n_len, out, sizeof out, &x); break;
-    case 5: termcap_flat(db, db_len, n, n_len, out, sizeof out, &x); break;
-    case 6: termcap_send(command, command_len, 1, 9600, 0, out, sizeof out, &x); break;
-    case 7:
+    case SHOW: termcap_show(db, db_len, n, n_len, &x, &y); break;
+    case FLAG: termcap_flag(db, db_len, n, n_len, id, 2, &x); break;
+    case NUMBER: termcap_number(db, db_len, n, n_len, id, 2, &x); break;
+    case STRING: termcap_string(db, db_len, n, n_len, id, 2, out, sizeof out, &x); break;
+    case LIST: termcap_list(db, db_len, n, n_len, out, sizeof out, &x); break;
+    case FLAT: termcap_flat(db, db_len, n, n_len, out, sizeof out, &x); break;
+    case REPAIR:
+        termcap_repair(db, db_len, mended, sizeof mended, out, sizeof out, &x, &y);
+        break;
+    case SEND: termcap_send(command, command_len, 1, 9600, 0, out, sizeof out, &x); break;
+    case SEND_AT:
         termcap_send_at(command, command_len, 9, 10, n, n_len, n, n_len, 1, 9600, 0, out, sizeof out,
                         &x);
         break;
@@ -80,7 +84,7 @@ static void measure(int from, int to)
 static void ask(const char *terminal)
 {
     name = terminal;
-    measure(0, 6);
+    measure(SHOW, SEND);
 }
 
 static void add(const char *line)
@@ -109,12 +113,25 @@ static void fill_database(size_t others)
     ask("nowhere");
 }
 
+/* 4,096 lines, each linking to the next, the last one to the first; every eighth has faults. */
+static void fill_ring(void)
+{
+    char line[200];
+    db_len = 0;
+    for (int i = 0; i < 4096; i++) {
+        sprintf(line, "k%d|terminal %d:am:%stc=k%d:\n", i, i, i % 8 == 0 ? "x:\\\n:li#:" : "",
+                (i + 1) % 4096);
+        add(line);
+    }
+    measure(REPAIR, SEND);
+}
+
 static void send_repeated(const char *part, size_t size)
 {
     for (command_len = 0; command_len + strlen(part) <= size; command_len += strlen(part)) {
         memcpy(command + command_len, part, strlen(part));
     }
-    measure(6, CALLS);
+    measure(SEND, CALLS);
 }
 
 int main(void)
@@ -126,6 +143,7 @@ int main(void)
     depth(NONE);
     fill_database(0);
     fill_database(1000000);
+    fill_ring();
     for (size_t i = 0; i < sizeof parts / sizeof parts[0]; i++) {
         send_repeated(parts[i], strlen(parts[i]));
         send_repeated(parts[i], sizeof command);

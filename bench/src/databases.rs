@@ -2,6 +2,7 @@
 
 pub mod hostile;
 pub mod large;
+pub mod repairs;
 pub mod small;
 pub mod wide;
 mod words;

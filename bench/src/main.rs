@@ -11,6 +11,7 @@ mod library;
 mod main_table;
 mod plain_c;
 mod question;
+mod repairs;
 mod rows;
 mod targets;
 mod timing;
@@ -86,10 +87,13 @@ fn measure(targets: &mut Targets) -> agreement::Checked {
     let growth_rows = series.iter().flat_map(|series| series.rows());
     main_rows.chain(growth_rows).chain(&hostile).try_for_each(agreement::check_row)?;
     agreement::check_more(&large, &growing.large[0])?;
+    let to_repair = databases::repairs::all();
+    repairs::check(&to_repair)?;
 
     main_table::print(&groups, targets);
     growth::print(&series);
     hostile::print(&hostile, targets);
+    repairs::print(&to_repair, targets);
     let [searching, _, _, sending] = &groups[..] else {
         return Err("the groups of rows are not those that are counted".to_string());
     };

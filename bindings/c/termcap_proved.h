@@ -3,18 +3,18 @@
  * -ltermcap is the name of another library on many systems.
  *
  * Slices. A slice passes as a pointer and a length in bytes. Pointers must be valid for that length
- * and must not be null; an empty slice, too, needs a pointer that is not null. `out` and the numbers
- * must not overlap each other or any input. The library keeps no pointer after a call, and names and
- * ids need no closing zero byte.
+ * and must not be null; an empty slice, too, needs a pointer that is not null. Output buffers and
+ * numbers must not overlap each other or any input. The library keeps no pointer after a call, and
+ * names and ids need no closing zero byte.
  *
  * Results. Every function returns TERMCAP_OK (accepted, or present), TERMCAP_ABSENT, or a refusal
- * number. With any result but TERMCAP_OK no byte of `out` and none of the numbers changes. With
- * TERMCAP_OK the bytes of `out` past those reported stay as they were.
+ * number. With any result but TERMCAP_OK no byte of an output buffer and none of the numbers changes.
+ * With TERMCAP_OK the bytes of a buffer past those reported stay as they were.
  *
  * Order of refusals: 1, 2, 3, then the walk (4 to 8), then 9. At each step of the walk: find the line
  * (4 for the first, else 5), then 7, then the 33rd description (8), then 6, then the size (8), then
- * the next link. Send and Send at: 12 for the inputs, 13, then faults from left to right through the
- * body (10 to 12), then 9.
+ * the next link. Repair: 3, 14, 9. Send and Send at: 12 for the inputs, 13, then faults from left to
+ * right through the body (10 to 12), then 9.
  *
  * Threads. The library has no state and allocates nothing: a function may be called from any thread,
  * and from several at once, if their buffers are apart.
@@ -63,6 +63,8 @@ extern "C" {
 #define TERMCAP_OUT_OF_RANGE 12u
 /* Padding with over 4 digits before the point, or over one after it. */
 #define TERMCAP_BAD_PADDING 13u
+/* Over 4,096 lines that aren't ignored are not repaired. */
+#define TERMCAP_TOO_MANY_LINES 14u
 
 /* Bytes of one record of termcap_list. */
 #define TERMCAP_RECORD_BYTES 8u
@@ -72,11 +74,24 @@ extern "C" {
 #define TERMCAP_FLAT_BYTES 16385u
 #define TERMCAP_STRING_BYTES 16384u
 
+/* Bytes of one record of termcap_repair, and the reasons in it. */
+#define TERMCAP_REPAIR_RECORD_BYTES 16u
+#define TERMCAP_REASON_NO_COLON 1u
+#define TERMCAP_REASON_MALFORMED_FIELD 2u
+#define TERMCAP_REASON_AFTER_LINK 3u
+#define TERMCAP_REASON_LOST_LINK 4u
+#define TERMCAP_REASON_CYCLE 5u
+/* With an `out` of db_len bytes and `records` of this many termcap_repair never gives 9. This is
+ * proved (crates/demands/specs/RepairPromises.antt). */
+#define TERMCAP_REPAIR_RECORDS_BYTES(db_len) (8 * ((size_t)(db_len) + 1))
+
 /* The stack a call needs, in bytes: of termcap_show; of termcap_flag, termcap_number and
- * termcap_string; of termcap_list and termcap_flat; of termcap_send and termcap_send_at. */
+ * termcap_string; of termcap_list and termcap_flat; of termcap_repair; of termcap_send and
+ * termcap_send_at. */
 #define TERMCAP_STACK_SHOW 5120u
 #define TERMCAP_STACK_QUESTION 7168u
 #define TERMCAP_STACK_LIST 11264u
+#define TERMCAP_STACK_REPAIR 155648u
 #define TERMCAP_STACK_SEND 4096u
 
 /* The kinds in a record. */
@@ -146,6 +161,25 @@ uint32_t termcap_list(const uint8_t *db, size_t db_len, const uint8_t *name, siz
  */
 uint32_t termcap_flat(const uint8_t *db, size_t db_len, const uint8_t *name, size_t name_len,
                       uint8_t *out, size_t out_len, uint64_t *count);
+
+/*
+ * Repair: the database as it was edited by hand, mended, and a record for each thing removed: a line
+ * without a colon, a malformed field, a field after a line's first link, a link to a name that no line
+ * has, and the link of the first line of each ring of links. A line that loses something is written
+ * joined; every other line keeps all its bytes. Afterwards no name is refused with 5, 6 or 7; 8 may
+ * remain. The mended database is never longer, and a database with nothing to remove comes back as it
+ * is.
+ *
+ * A record is four 32-bit numbers, high byte first: the logical line from 0, ignored lines counted; the
+ * byte place from 0 in that line, joined; the reason; and the joined bytes that went, a field's colon
+ * counted, a line's newline not. Records are ordered by line, then place.
+ *
+ * TERMCAP_OK: the first *count bytes of `out` are the mended database, and the first
+ * TERMCAP_REPAIR_RECORD_BYTES * *removed bytes of `records` are the records.
+ * Refusals: 3, 14, 9, in this order; `out` and `records` then keep every byte.
+ */
+uint32_t termcap_repair(const uint8_t *db, size_t db_len, uint8_t *out, size_t out_len,
+                        uint8_t *records, size_t records_len, uint64_t *count, uint64_t *removed);
 
 /*
  * Send: the body of a decoded command and its padding. Percent signs are copied unchanged. The

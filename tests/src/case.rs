@@ -4,7 +4,9 @@ use std::fmt;
 
 use crate::properties;
 use crate::random::Random;
+use crate::reference::repair::REMOVAL_BYTES;
 use crate::reference::Position;
+use crate::repair_promises;
 use crate::subject::{Reference, Subject, ABSENT, ACCEPTED};
 
 #[derive(Clone, Copy, Debug, Default, PartialEq, Eq)]
@@ -16,27 +18,36 @@ pub enum Operation {
     String,
     List,
     Flat,
+    Repair,
     Send,
     SendAt,
     /// Demand 3 on real calls: `id` holds ids to ask besides those listed, two bytes each.
     Properties,
+    /// The promises of the repair on real calls.
+    RepairPromises,
 }
 
 impl Operation {
-    pub const ALL: [Operation; 9] = [
+    pub const ALL: [Operation; 11] = [
         Operation::Show,
         Operation::Flag,
         Operation::Number,
         Operation::String,
         Operation::List,
         Operation::Flat,
+        Operation::Repair,
         Operation::Send,
         Operation::SendAt,
         Operation::Properties,
+        Operation::RepairPromises,
     ];
 
     pub fn sends(self) -> bool {
         matches!(self, Operation::Send | Operation::SendAt)
+    }
+
+    pub fn repairs(self) -> bool {
+        matches!(self, Operation::Repair | Operation::RepairPromises)
     }
 
     pub fn takes_id(self) -> bool {
@@ -56,6 +67,7 @@ impl Operation {
             Show => &["start", "length"],
             Flag | Number => &["value"],
             List => &["records"],
+            Repair => &["count", "removed"],
             _ => &["count"],
         }
     }
@@ -78,16 +90,19 @@ pub struct Case {
     pub pad: u8,
     /// Bytes of the lent output buffer.
     pub room: u64,
-    /// Seed of what stands in the buffer, the guards and the numbers before the call.
+    /// Bytes of the second buffer of a repair, for its records.
+    pub records_room: u64,
+    /// Seed of what stands in the buffers, the guards and the numbers before the call.
     pub fill: u64,
 }
 
-/// What a call left behind: the result, the numbers and every byte of the buffer and its guards.
+/// What a call left behind: the result, the numbers and every byte of the buffers and their guards.
 #[derive(Clone, Debug, PartialEq, Eq)]
 pub struct Observed {
     pub code: u32,
     pub numbers: [u64; 2],
     pub block: Vec<u8>,
+    pub records_block: Vec<u8>,
 }
 
 /// Guard bytes before and behind the lent buffer.
@@ -96,6 +111,11 @@ pub const GUARD: usize = 64;
 impl Observed {
     pub fn out(&self) -> &[u8] {
         &self.block[GUARD..self.block.len() - GUARD]
+    }
+
+    /// The second buffer of a repair.
+    pub fn records(&self) -> &[u8] {
+        &self.records_block[GUARD..self.records_block.len() - GUARD]
     }
 
     /// The bytes said to be written, as far as the buffer has them: the number may be a lie.
@@ -110,7 +130,10 @@ pub fn before(case: &Case) -> Observed {
     let mut random = Random::new(case.fill);
     let mut block = vec![0; GUARD + case.room as usize + GUARD];
     random.fill(&mut block);
-    Observed { code: u32::MAX, numbers: [random.number(), random.number()], block }
+    let mut records_block = vec![0; GUARD + case.records_room as usize + GUARD];
+    random.fill(&mut records_block);
+    let numbers = [random.number(), random.number()];
+    Observed { code: u32::MAX, numbers, block, records_block }
 }
 
 /// One call of the subject; for the properties, the call of Flat that they start from.
@@ -118,6 +141,8 @@ pub fn observe(case: &Case, subject: &impl Subject) -> Observed {
     let mut seen = before(case);
     let end = seen.block.len() - GUARD;
     let out = &mut seen.block[GUARD..end];
+    let records_end = seen.records_block.len() - GUARD;
+    let records = &mut seen.records_block[GUARD..records_end];
     let [first, second] = &mut seen.numbers;
     let (database, name, id) = (&case.database[..], &case.name[..], &case.id[..]);
     let position = Position { row: case.row, column: case.column, back: &case.back, up: &case.up };
@@ -128,6 +153,9 @@ pub fn observe(case: &Case, subject: &impl Subject) -> Observed {
         Operation::String => subject.string(database, name, id, out, first),
         Operation::List => subject.list(database, name, out, first),
         Operation::Flat | Operation::Properties => subject.flat(database, name, out, first),
+        Operation::Repair | Operation::RepairPromises => {
+            subject.repair(database, out, records, first, second)
+        }
         Operation::Send => {
             subject.send(&case.command, case.lines, case.speed, case.pad, out, first)
         }
@@ -143,6 +171,8 @@ pub fn disagreement(case: &Case, subject: &impl Subject) -> Option<String> {
     let kept = case.clone();
     let complaint = if case.operation == Operation::Properties {
         properties::broken(case, subject)
+    } else if case.operation == Operation::RepairPromises {
+        repair_promises::broken(case, subject)
     } else {
         let expected = observe(&kept, &Reference);
         let seen = observe(case, subject);
@@ -190,6 +220,12 @@ pub fn describe(case: &Case, observed: &Observed) -> String {
         if bytes.len() > MOST_SHOWN {
             text += &format!(" and {} more", bytes.len() - MOST_SHOWN);
         }
+        if case.operation == Operation::Repair {
+            let bytes = observed.numbers[1].saturating_mul(REMOVAL_BYTES as u64);
+            let records = observed.records();
+            let shown = bytes.min(records.len() as u64).min(MOST_SHOWN as u64);
+            text += &format!(", records {}", Bytes(&records[..shown as usize]));
+        }
     }
     text
 }
@@ -211,6 +247,9 @@ fn byte_differences(case: &Case, expected: &Observed, seen: &Observed) -> Vec<St
     }
     if places.len() > SHOWN {
         lines.push(format!("... {} bytes differ in all", places.len()));
+    }
+    if expected.records_block != seen.records_block {
+        lines.push("the buffer for the records differs".to_string());
     }
     lines
 }
@@ -279,13 +318,18 @@ impl fmt::Display for Case {
             writeln!(formatter, "    pad: {},", self.pad)?;
         } else {
             writeln!(formatter, "    database: {},", Bytes(&self.database))?;
-            writeln!(formatter, "    name: {},", Bytes(&self.name))?;
+            if !self.operation.repairs() {
+                writeln!(formatter, "    name: {},", Bytes(&self.name))?;
+            }
             if self.operation.takes_id() {
                 writeln!(formatter, "    id: {},", Bytes(&self.id))?;
             }
         }
         if self.operation.takes_room() {
             writeln!(formatter, "    room: {},", self.room)?;
+        }
+        if self.operation.repairs() {
+            writeln!(formatter, "    records_room: {},", self.records_room)?;
         }
         writeln!(formatter, "    fill: {},", self.fill)?;
         writeln!(formatter, "    ..Case::default()")?;
@@ -368,7 +412,7 @@ mod tests {
             answer.code
         });
         let case = (0..)
-            .map(|index| generate::case(3, index))
+            .map(|index| generate::case(9, index))
             .filter(|case| case.operation == Operation::Flag && case.database.len() > 60)
             .find(|case| disagreement(case, &subject).is_some())
             .expect("flags are often present");

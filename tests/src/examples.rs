@@ -1,4 +1,4 @@
-//! Answers written by hand from document 01, and from the readings taken of its open points: none
+//! Answers written by hand from documents 01 and 02, and from the readings taken of its open points: none
 //! was computed. They are asked of the reference by the unit test below, and of the library before
 //! any generated case.
 
@@ -25,8 +25,10 @@ pub enum Expected {
     Bytes(Vec<u8>),
     /// The bytes written, and a count of one for every eight.
     Records(Vec<u8>),
+    /// The mended database, and line, place, reason and count of each removal.
+    Mended(Vec<u8>, Vec<[u32; 4]>),
 }
-use Expected::{Absent, Bytes, Records, Refused, Shown, Value};
+use Expected::{Absent, Bytes, Mended, Records, Refused, Shown, Value};
 
 /// What is wrong with the subject's answer, in words; nothing if it is the one written here.
 pub fn wrong(example: &Example, subject: &impl Subject) -> Option<String> {
@@ -43,7 +45,13 @@ pub fn wrong(example: &Example, subject: &impl Subject) -> Option<String> {
         Value(value) => (&[*value], b""),
         Bytes(bytes) => (&[bytes.len() as u64], bytes),
         Records(bytes) => (&[bytes.len() as u64 / 8], bytes),
+        Mended(text, removals) => (&[text.len() as u64, removals.len() as u64], text),
     };
+    if let Mended(_, removals) = &example.expected {
+        let numbers = removals.iter().flatten();
+        let bytes: Vec<u8> = numbers.flat_map(|number| number.to_be_bytes()).collect();
+        right.records_block[GUARD..GUARD + bytes.len()].copy_from_slice(&bytes);
+    }
     right.numbers[..numbers.len()].copy_from_slice(numbers);
     right.block[GUARD..GUARD + bytes.len()].copy_from_slice(bytes);
     let seen = observe(case, subject);
@@ -71,6 +79,9 @@ pub fn all() -> Vec<Example> {
         raising(),
         padding(),
         order_of_send(),
+        repairs(),
+        repairs_of_links(),
+        repairs_refused(),
     ];
     parts.into_iter().flatten().collect()
 }
@@ -109,6 +120,14 @@ fn list(database: &[u8], name: &[u8]) -> Case {
 
 fn flat(database: &[u8], name: &[u8]) -> Case {
     Case { room: 17_000, ..ask(Operation::Flat, database, name) }
+}
+
+fn repair(database: &[u8]) -> Case {
+    Case { room: 60, records_room: 80, ..ask(Operation::Repair, database, b"") }
+}
+
+fn mended(text: &[u8], removals: &[[u32; 4]]) -> Expected {
+    Mended(text.to_vec(), removals.to_vec())
 }
 
 fn send(command: &[u8], lines: u64, speed: u64) -> Case {
@@ -742,6 +761,131 @@ fn order_of_send() -> Vec<Example> {
         example("13 before 9", Case { room: 0, ..send(b"12345a", 1, 0) }, Refused(13)),
         example("10 before 9", Case { room: 0, ..send_at(b"abc%x", 0, 0) }, Refused(10)),
         example("11 before 9", Case { room: 0, ..send_at(b"%d%d%d", 0, 0) }, Refused(11)),
+    ]
+}
+
+// ---------------------------------------------------------------------------------------------
+// Document 02, Ask 2: a removal is line, place, reason and count
+// ---------------------------------------------------------------------------------------------
+
+fn repairs() -> Vec<Example> {
+    vec![
+        example("nothing to mend", repair(b"n:am:\n"), mended(b"n:am:\n", &[])),
+        example("an empty database to mend", repair(b""), mended(b"", &[])),
+        example("mended: no last newline", repair(b"n:am"), mended(b"n:am", &[])),
+        example(
+            "a line without a colon is dropped",
+            repair(b"m\nn:am:\n"),
+            mended(b"n:am:\n", &[[0, 0, 1, 1]]),
+        ),
+        example(
+            "ignored lines stay, and are counted",
+            repair(b"#c:tc=q:\n\n \t\nmm\nn:am:\n"),
+            mended(b"#c:tc=q:\n\n \t\nn:am:\n", &[[3, 0, 1, 2]]),
+        ),
+        example(
+            "a dropped line is counted joined",
+            repair(b"m\\\nm\nn:\n"),
+            mended(b"n:\n", &[[0, 0, 1, 2]]),
+        ),
+        example(
+            "malformed fields, the last without a colon",
+            repair(b"n:x:am:y"),
+            mended(b"n:am:\n", &[[0, 2, 2, 2], [0, 7, 2, 1]]),
+        ),
+        example(
+            "a changed line is written joined",
+            repair(b"n|\\\nm:\\\n x:am:\n"),
+            mended(b"n|m:am:\n", &[[0, 4, 2, 3]]),
+        ),
+        example(
+            "an unchanged line keeps its pairs",
+            repair(b"n:\\\nam:\nm:x:\n"),
+            mended(b"n:\\\nam:\nm:\n", &[[1, 2, 2, 2]]),
+        ),
+        example(
+            "a colon before the newline",
+            repair(b"n:x:.\\"),
+            mended(b"n:.\\:\n", &[[0, 2, 2, 2]]),
+        ),
+        example("a carriage return", repair(b"n:am:\r\n"), mended(b"n:am:\n", &[[0, 5, 2, 1]])),
+    ]
+}
+
+fn repairs_of_links() -> Vec<Example> {
+    vec![
+        example(
+            "fields after a link",
+            repair(b"n:tc=m:am:.x: :tc=n:co#:\nm:\n"),
+            mended(b"n:tc=m:.x: :\nm:\n", &[[0, 7, 3, 3], [0, 15, 3, 5], [0, 20, 2, 4]]),
+        ),
+        example(
+            "a malformed link is no first link",
+            repair(b"n:tc=:am:tc=m:\nm:\n"),
+            mended(b"n:am:tc=m:\nm:\n", &[[0, 2, 2, 4]]),
+        ),
+        example(
+            "a lost link; what stood after it does not come back",
+            repair(b"n:tc=q:am:\n"),
+            mended(b"n:\n", &[[0, 2, 4, 5], [0, 7, 3, 3]]),
+        ),
+        example(
+            "a dropped line does not answer",
+            repair(b"m\nn:tc=m:\n"),
+            mended(b"n:\n", &[[0, 0, 1, 1], [1, 2, 4, 5]]),
+        ),
+        example(
+            "a dropped line does not shadow",
+            repair(b"m\nn:tc=m:\nm:am:\n"),
+            mended(b"n:tc=m:\nm:am:\n", &[[0, 0, 1, 1]]),
+        ),
+        example("a self-link", repair(b"n:tc=n:\n"), mended(b"n:\n", &[[0, 2, 5, 5]])),
+        example(
+            "the first line of a ring",
+            repair(b"a:tc=b:\nb:tc=c:\nc:tc=b:\n"),
+            mended(b"a:tc=b:\nb:\nc:tc=b:\n", &[[1, 2, 5, 5]]),
+        ),
+        example(
+            "a link to a line with a lost link",
+            repair(b"a:tc=b:\nb:tc=q:\n"),
+            mended(b"a:tc=b:\nb:\n", &[[1, 2, 4, 5]]),
+        ),
+        example(
+            "a line that no name finds",
+            repair(b"n:am:\nn:x:tc=n:\n"),
+            mended(b"n:am:\nn:tc=n:\n", &[[1, 2, 2, 2]]),
+        ),
+        example(
+            "a ring of names that recur",
+            repair(b"a|b:tc=b:\nb:tc=a:\n"),
+            mended(b"a|b:\nb:tc=a:\n", &[[0, 4, 5, 5]]),
+        ),
+    ]
+}
+
+fn repairs_refused() -> Vec<Example> {
+    let (most, over) = (b"n:\n".repeat(4_096), b"n:\n".repeat(4_097));
+    let large = vec![b'#'; 1_048_577];
+    let many_and_large = [over.clone(), vec![b'#'; 1_048_577]].concat();
+    vec![
+        example("4,096 lines", Case { room: 12_288, ..repair(&most) }, mended(&most, &[])),
+        example("4,097 lines", repair(&over), Refused(14)),
+        example("14 before 9", Case { room: 0, ..repair(&over) }, Refused(14)),
+        example("4,096 lines and no room", Case { room: 12_287, ..repair(&most) }, Refused(9)),
+        example("a repair of too many bytes", repair(&large), Refused(3)),
+        example("3 before 14", repair(&many_and_large), Refused(3)),
+        example("no room for the text", Case { room: 2, ..repair(b"n:x:\n") }, Refused(9)),
+        example("no room for a record", Case { records_room: 15, ..repair(b"n:x:\n") }, Refused(9)),
+        example(
+            "just room for both",
+            Case { room: 3, records_room: 16, ..repair(b"n:x:\n") },
+            mended(b"n:\n", &[[0, 2, 2, 2]]),
+        ),
+        example(
+            "no room is needed for no records",
+            Case { room: 5, records_room: 0, ..repair(b"n:am:") },
+            mended(b"n:am:", &[]),
+        ),
     ]
 }
 

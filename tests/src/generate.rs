@@ -10,21 +10,35 @@ use crate::reference::{self, Position};
 
 mod commands;
 mod databases;
+mod repairs;
 
 pub use databases::many_flags;
 
 /// Case number `index` of the run with this seed.
 pub fn case(seed: u64, index: u64) -> Case {
     let mut random = Random::for_case(seed, index);
-    let operation = Operation::ALL[random.weighted(&[7, 9, 10, 16, 12, 12, 10, 17, 7])];
+    let operation = Operation::ALL[random.weighted(&[7, 9, 9, 14, 11, 11, 9, 9, 14, 5, 4])];
+    fill_in(&mut random, operation)
+}
+
+/// Case number `index` of the run with this seed that has this operation alone.
+pub fn case_of(operation: Operation, seed: u64, index: u64) -> Case {
+    fill_in(&mut Random::for_case(seed, index), operation)
+}
+
+fn fill_in(random: &mut Random, operation: Operation) -> Case {
     let mut case = Case { operation, fill: random.number(), ..Case::default() };
     if operation.sends() {
-        commands::fill_in(&mut random, &mut case);
+        commands::fill_in(random, &mut case);
+    } else if operation.repairs() {
+        repairs::fill_in(random, &mut case);
     } else {
-        databases::fill_in(&mut random, &mut case);
+        databases::fill_in(random, &mut case);
     }
-    if operation.takes_room() {
-        case.room = room(&mut random, &case);
+    if operation == Operation::Repair {
+        rooms_of_repair(random, &mut case);
+    } else if operation.takes_room() {
+        case.room = room(random, needed(&case));
     }
     case
 }
@@ -33,8 +47,8 @@ pub fn case(seed: u64, index: u64) -> Case {
 const LARGEST_ROOM: u64 = 100_000;
 
 /// Exactly fitting, one short, none, a little more, much more, anything less.
-fn room(random: &mut Random, case: &Case) -> u64 {
-    let needed = match needed(case) {
+fn room(random: &mut Random, needed: Option<u64>) -> u64 {
+    let needed = match needed {
         Some(bytes) if bytes <= LARGEST_ROOM => bytes,
         _ => random.pick_value(&[10, 60, 1_500, 50_000]),
     };
@@ -45,6 +59,21 @@ fn room(random: &mut Random, case: &Case) -> u64 {
         3 => needed + random.between(1, 20),
         4 => needed + random.between(21, 2_000),
         _ => random.between(0, needed),
+    }
+}
+
+/// Of the two buffers of a repair one mostly fits.
+fn rooms_of_repair(random: &mut Random, case: &mut Case) {
+    let mended = reference::repair::repair_parts(&case.database).ok();
+    let of_text = mended.as_ref().map(|mended| mended.text.len() as u64);
+    let of_records = mended.as_ref().map(|mended| mended.records.len() as u64);
+    case.room = room(random, of_text);
+    case.records_room = room(random, of_records);
+    match (random.below(4), of_text, of_records) {
+        (0 | 1, Some(text), Some(_)) => case.room = text + random.between(0, 9),
+        (2, Some(_), Some(records)) => case.records_room = records + random.between(0, 20),
+        (3, Some(text), Some(records)) => (case.room, case.records_room) = (text, records),
+        _ => {}
     }
 }
 

@@ -10,6 +10,7 @@ pub mod mix;
 pub mod properties;
 pub mod random;
 pub mod reference;
+pub mod repair_promises;
 pub mod shrink;
 pub mod subject;
 #[cfg(test)]

@@ -61,6 +61,16 @@ extern "C" {
         out_len: usize,
         count: *mut u64,
     ) -> u32;
+    fn termcap_repair(
+        db: *const u8,
+        db_len: usize,
+        out: *mut u8,
+        out_len: usize,
+        records: *mut u8,
+        records_len: usize,
+        count: *mut u64,
+        removed: *mut u64,
+    ) -> u32;
     fn termcap_send(
         command: *const u8,
         command_len: usize,
@@ -191,6 +201,28 @@ impl Subject for Library {
                 out.as_mut_ptr(),
                 out.len(),
                 count,
+            )
+        }
+    }
+
+    fn repair(
+        &self,
+        database: &[u8],
+        out: &mut [u8],
+        records: &mut [u8],
+        count: &mut u64,
+        removed: &mut u64,
+    ) -> u32 {
+        unsafe {
+            termcap_repair(
+                pointer(database),
+                database.len(),
+                out.as_mut_ptr(),
+                out.len(),
+                records.as_mut_ptr(),
+                records.len(),
+                count,
+                removed,
             )
         }
     }

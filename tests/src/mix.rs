@@ -8,7 +8,7 @@ use crate::generate;
 use crate::subject::{Reference, ABSENT, ACCEPTED};
 
 /// The results a reader wants to see, in this order: accepted, absent, the refusals.
-const CODES: [u32; 15] = [ACCEPTED, ABSENT, 1, 2, 3, 4, 5, 6, 7, 8, 9, 10, 11, 12, 13];
+const CODES: [u32; 16] = [ACCEPTED, ABSENT, 1, 2, 3, 4, 5, 6, 7, 8, 9, 10, 11, 12, 13, 14];
 
 pub struct Mix {
     counts: BTreeMap<(usize, u32), u64>,
@@ -86,9 +86,11 @@ mod tests {
             Operation::Flag | Operation::Number => &[ACCEPTED, ABSENT, 1, 2, 3, 4, 5, 6, 7, 8],
             Operation::String => &[ACCEPTED, ABSENT, 1, 2, 3, 4, 5, 6, 7, 8, 9],
             Operation::List | Operation::Flat => &[ACCEPTED, 1, 3, 4, 5, 6, 7, 8, 9],
+            Operation::Repair => &[ACCEPTED, 3, 9, 14],
             Operation::Send => &[ACCEPTED, 9, 12, 13],
             Operation::SendAt => &[ACCEPTED, 9, 10, 11, 12, 13],
             Operation::Properties => &[ACCEPTED, 1, 4, 5, 6, 7, 8],
+            Operation::RepairPromises => &[ACCEPTED, 14],
         }
     }
 
@@ -99,11 +101,11 @@ mod tests {
             let mut counted = 0;
             for &code in possible(operation) {
                 let share = mix.share(operation, code);
-                let least = if code == 3 { 0.0001 } else { 0.3 };
+                let least = if matches!(code, 3 | 14) { 0.0001 } else { 0.3 };
                 assert!(share >= least, "{operation:?} gives {code} in {share:.3} % of its cases");
                 counted += mix.count(operation, code);
             }
-            if operation != Operation::Properties {
+            if operation != Operation::Properties && operation != Operation::RepairPromises {
                 assert_eq!(counted, mix.total(operation), "{operation:?} gives something else");
             }
         }

@@ -1,8 +1,11 @@
-//! Document 01 written down a second time: simple, slow, and in the paper's own order.
+//! Document 01 written down a second time: simple, slow, and in the paper's own order. The requests of
+//! document 02 that add operations have files of their own.
 //!
 //! Nothing here is shared with the library under test. Headings are the paper's sections, words in
 //! quotation marks are its own, and "our reading" marks where it can be read in two ways or is
 //! silent. Every operation gives `Err` with the refusal number, or `Ok`; `Ok(None)` is "absent".
+
+pub mod repair;
 
 pub type Refusal = u8;
 

@@ -13,8 +13,9 @@ const BYTES: [fn(&mut Case) -> &mut Vec<u8>; 6] = [
     |case| &mut case.up,
 ];
 
-const NUMBERS: [fn(&mut Case) -> &mut u64; 6] = [
+const NUMBERS: [fn(&mut Case) -> &mut u64; 7] = [
     |case| &mut case.room,
+    |case| &mut case.records_room,
     |case| &mut case.row,
     |case| &mut case.column,
     |case| &mut case.lines,

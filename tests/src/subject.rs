@@ -1,4 +1,4 @@
-//! The eight functions of the library's outside, as a trait: the static library is one subject, the
+//! The functions of the library's outside, as a trait: the static library is one subject, the
 //! reference another, and the tests of this crate make up wrong ones.
 //!
 //! Each gives the result code: 0 accepted or present, 255 absent, otherwise the refusal number.
@@ -22,6 +22,14 @@ pub trait Subject {
     ) -> u32;
     fn list(&self, database: &[u8], name: &[u8], out: &mut [u8], records: &mut u64) -> u32;
     fn flat(&self, database: &[u8], name: &[u8], out: &mut [u8], count: &mut u64) -> u32;
+    fn repair(
+        &self,
+        database: &[u8],
+        out: &mut [u8],
+        records: &mut [u8],
+        count: &mut u64,
+        removed: &mut u64,
+    ) -> u32;
     fn send(
         &self,
         command: &[u8],
@@ -108,6 +116,24 @@ impl Subject for Reference {
 
     fn flat(&self, database: &[u8], name: &[u8], out: &mut [u8], count: &mut u64) -> u32 {
         accepted(reference::flat(database, name, out), count)
+    }
+
+    fn repair(
+        &self,
+        database: &[u8],
+        out: &mut [u8],
+        records: &mut [u8],
+        count: &mut u64,
+        removed: &mut u64,
+    ) -> u32 {
+        match reference::repair::repair(database, out, records) {
+            Ok((bytes, number)) => {
+                *count = bytes as u64;
+                *removed = number as u64;
+                ACCEPTED
+            }
+            Err(refusal) => u32::from(refusal),
+        }
     }
 
     fn send(

@@ -53,6 +53,18 @@ impl<F: Fn(Answer) -> u32> Subject for Twisted<F> {
         (self.0)(Answer { operation: Operation::Flat, code, number: count, out })
     }
 
+    fn repair(
+        &self,
+        database: &[u8],
+        out: &mut [u8],
+        records: &mut [u8],
+        count: &mut u64,
+        removed: &mut u64,
+    ) -> u32 {
+        let code = Reference.repair(database, out, records, count, removed);
+        (self.0)(Answer { operation: Operation::Repair, code, number: count, out })
+    }
+
     fn send(
         &self,
         command: &[u8],

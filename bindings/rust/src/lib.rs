@@ -40,6 +40,7 @@
 //! | [`Database::show`] | 5,120 |
 //! | [`Database::flag`], [`Database::number`], [`Database::string`] | 7,168 |
 //! | [`Database::list`], [`Database::flat`] | 11,264 |
+//! | [`Database::repair`] | 155,648 |
 //! | [`send`], [`send_at`] | 4,096 |
 
 #![deny(missing_docs)]
@@ -47,11 +48,13 @@
 
 mod record;
 mod refusal;
+mod removal;
 #[allow(unsafe_code)]
 mod sys;
 
 pub use record::{Kind, Record};
 pub use refusal::{NotARefusal, Refusal};
+pub use removal::{Reason, Removal, Repair};
 
 /// The most bytes a decoded string has: it is no longer than its field, and a chain's size is at
 /// most 16,384. This and the next three are proved (`crates/demands/specs/Room.antt`).
@@ -262,6 +265,68 @@ impl<'a> Database<'a> {
         let result = sys::flat(self.bytes, name.as_ref(), out, &mut count);
         accepted(result, ())?;
         Ok(size(count))
+    }
+}
+
+/// Repair: a database as sites have edited it, mended.
+impl Database<'_> {
+    /// The mended database, in which no name is refused with [`Refusal::LostLink`],
+    /// [`Refusal::Malformed`] or [`Refusal::Cycle`], and what was removed for that: lines without a
+    /// colon, malformed fields, fields after a link, links to unknown names, and one link of each
+    /// ring. Lines that need no change keep every byte, and a sound database comes back as it is.
+    /// This is proved (`crates/demands/specs/RepairPromises.antt`).
+    ///
+    /// ```
+    /// # use termcap_proved::{Database, Reason, Removal, Refusal};
+    /// # fn main() -> Result<(), Refusal> {
+    /// let database = Database::new(b"oven:am:co#8O:tc=hall:\nhall:li#24:\n");
+    /// assert_eq!(database.flag("oven", "am"), Err(Refusal::Malformed));
+    ///
+    /// let repair = database.repair()?;
+    /// assert_eq!(repair.database, b"oven:am:tc=hall:\nhall:li#24:\n");
+    /// let removal = Removal { line: 0, place: 8, reason: Reason::MalformedField, length: 6 };
+    /// assert_eq!(repair.removals, [removal]);
+    /// assert_eq!(removal.to_string(), "logical line 1, byte 9: malformed field removed (6 bytes)");
+    /// assert_eq!(Database::new(&repair.database).flag("oven", "am"), Ok(true));
+    /// # Ok(())
+    /// # }
+    /// ```
+    pub fn repair(&self) -> Result<Repair, Refusal> {
+        let mut database = vec![0; self.bytes.len()];
+        let mut records = vec![0; Removal::most_bytes(self.bytes.len())];
+        let (count, removed) = self.repair_into(&mut database, &mut records)?;
+        database.truncate(count);
+        let read = |bytes: &[u8]| {
+            let bytes = bytes.try_into().expect("a chunk is one record");
+            Removal::from_bytes(bytes).expect("the library writes reasons 1 to 5")
+        };
+        let removals = records.chunks_exact(Removal::BYTES).take(removed).map(read).collect();
+        Ok(Repair { database, removals })
+    }
+
+    /// Writes the mended database to the start of `out` and the records, [`Removal::BYTES`] each,
+    /// to the start of `records`, and gives the number of bytes and of records.
+    /// [`Removal::from_bytes`] reads them. An `out` as long as the database is always enough, and
+    /// [`Removal::most_bytes`] for the records; a refusal leaves both as they were.
+    ///
+    /// ```
+    /// # use termcap_proved::{Database, Refusal};
+    /// let database = Database::new(b"kiln\noven:am:\n");
+    /// let (mut out, mut records) = ([b'.'; 9], [0; 16]);
+    /// assert_eq!(database.repair_into(&mut out, &mut records[..15]), Err(Refusal::NoRoom));
+    /// assert_eq!(&out, b".........");
+    /// assert_eq!(database.repair_into(&mut out, &mut records), Ok((9, 1)));
+    /// assert_eq!(&out, b"oven:am:\n");
+    /// ```
+    pub fn repair_into(
+        &self,
+        out: &mut [u8],
+        records: &mut [u8],
+    ) -> Result<(usize, usize), Refusal> {
+        let (mut count, mut removed) = (0, 0);
+        let result = sys::repair(self.bytes, out, records, &mut count, &mut removed);
+        accepted(result, ())?;
+        Ok((size(count), size(removed)))
     }
 }
 

@@ -33,10 +33,12 @@ pub enum Refusal {
     OutOfRange = 12,
     /// Padding with over 4 digits before the point, or over one after it.
     BadPadding = 13,
+    /// Over 4,096 lines that aren't ignored are not repaired.
+    TooManyLines = 14,
 }
 
 impl Refusal {
-    const ALL: [Refusal; 13] = [
+    const ALL: [Refusal; 14] = [
         Refusal::BadName,
         Refusal::BadId,
         Refusal::DatabaseTooLarge,
@@ -50,9 +52,10 @@ impl Refusal {
         Refusal::TooFewParameters,
         Refusal::OutOfRange,
         Refusal::BadPadding,
+        Refusal::TooManyLines,
     ];
 
-    /// The refusal number, 1 to 13.
+    /// The refusal number, 1 to 14.
     pub fn number(self) -> u32 {
         self as u32
     }
@@ -80,6 +83,7 @@ impl fmt::Display for Refusal {
             Refusal::TooFewParameters => "the command uses more parameters than there are",
             Refusal::OutOfRange => "a number is out of its range",
             Refusal::BadPadding => "the command's padding has too many digits",
+            Refusal::TooManyLines => "the database has more than 4,096 descriptions to repair",
         })
     }
 }

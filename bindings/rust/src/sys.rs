@@ -59,6 +59,16 @@ mod c {
             out_len: usize,
             count: *mut u64,
         ) -> u32;
+        pub fn termcap_repair(
+            db: *const u8,
+            db_len: usize,
+            out: *mut u8,
+            out_len: usize,
+            records: *mut u8,
+            records_len: usize,
+            count: *mut u64,
+            removed: *mut u64,
+        ) -> u32;
         pub fn termcap_send(
             command: *const u8,
             command_len: usize,
@@ -91,7 +101,7 @@ mod c {
 // SAFETY, for every call below: each pointer and length come from one Rust slice, so the pointer is
 // not null, also for an empty slice, and is valid for that length during the call. Output buffers
 // and numbers are borrowed mutably, so they overlap nothing else. The library keeps no pointer,
-// reads only within the input slices, and writes only within `out` and the numbers.
+// reads only within the input slices, and writes only within the output buffers and the numbers.
 
 pub fn show(db: &[u8], name: &[u8], start: &mut u64, length: &mut u64) -> u32 {
     // SAFETY: see above.
@@ -171,6 +181,28 @@ pub fn flat(db: &[u8], name: &[u8], out: &mut [u8], count: &mut u64) -> u32 {
             out.as_mut_ptr(),
             out.len(),
             count,
+        )
+    }
+}
+
+pub fn repair(
+    db: &[u8],
+    out: &mut [u8],
+    records: &mut [u8],
+    count: &mut u64,
+    removed: &mut u64,
+) -> u32 {
+    // SAFETY: see above.
+    unsafe {
+        c::termcap_repair(
+            db.as_ptr(),
+            db.len(),
+            out.as_mut_ptr(),
+            out.len(),
+            records.as_mut_ptr(),
+            records.len(),
+            count,
+            removed,
         )
     }
 }

@@ -5,3 +5,9 @@ pub mod Winning
 pub mod Demand3
 pub mod Limits
 pub mod Room
+pub mod SoundWalks
+pub mod MendedLines
+pub mod RepairSound
+pub mod SoundUnchanged
+pub mod RepairPromises
+pub mod RepairRoom

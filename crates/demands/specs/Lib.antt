@@ -5,3 +5,5 @@ pub mod Winning
 pub mod Demand3
 pub mod Limits
 pub mod Room
+pub mod RepairPromises
+pub mod RepairRoom

@@ -18,7 +18,7 @@ unfolding holds
 piece-then [] h = clash (cc)
 piece-then (b ∷ l) h = split-first b l
 
-past-none : (l : List ℕ) → holds 58 l ≡ false → past 58 l ≡ []
+pub past-none : (l : List ℕ) → holds 58 l ≡ false → past 58 l ≡ []
 unfolding holds past
 past-none [] h = refl
 past-none (b ∷ l) h = go (eqb b 58) h (past-none l)

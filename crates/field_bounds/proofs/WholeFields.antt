@@ -15,18 +15,18 @@ use Rattle.field_bounds.specs.declared.Bounds.the-variants.{Nothing, Fie
 use Rattle.field_bounds.proofs.Pieces.{piece-none, piece-last, fields-none}
 use Rattle.field_bounds.proofs.LineBounds.{last-field, field-inside, size-bound}
 
-split-some : (l : List ℕ) → (l ≡ [] → ⊥) → split l ≡ upto 58 l ∷ split (past 58 l)
+pub split-some : (l : List ℕ) → (l ≡ [] → ⊥) → split l ≡ upto 58 l ∷ split (past 58 l)
 split-some [] n = absurd (n refl)
 split-some (b ∷ l) n = split-first b l
 
-split-none : (l : List ℕ) → split l ≡ [] → l ≡ []
+pub split-none : (l : List ℕ) → split l ≡ [] → l ≡ []
 split-none [] e = refl
 split-none (b ∷ l) e =
     let f = split-first b l in
     let z : _≡_ {A = ℕ} 0 1 = cc in
     absurd (omega arith)
 
-no-field : (l f : List ℕ) (fs : List (List ℕ)) → split l ≡ f ∷ fs → l ≡ [] → ⊥
+pub no-field : (l f : List ℕ) (fs : List (List ℕ)) → split l ≡ f ∷ fs → l ≡ [] → ⊥
 no-field l f fs e h =
     let n : split l ≡ [] = ap split h ∙ split-nil in
     let z : _≡_ {A = ℕ} 0 1 = cc in

@@ -5,7 +5,7 @@ ghost use lib.Dec.{eqb};
 ghost use lib.ListN.{length};
 ghost use Rattle.spec.specs.Lists.{same};
 ghost use Rattle.spec.specs.Lines.{textAt, lineText, blank, isIgnored, firstName, extent};
-ghost use Rattle.lines.specs.Answers.{Peeked, NextName};
+ghost use Rattle.lines.specs.Answers.{Peeked, NextName, NextLine};
 
 // What the joined text at a place starts with: a byte, with the place after it, or the end of the database.
 pub enum Step {
@@ -13,7 +13,7 @@ pub enum Step {
     End,
 }
 
-// The place where the next name starts, if there is one.
+// The place where the next name, or the next line, starts, if there is one.
 pub enum Next {
     To(usize),
     Last,
@@ -162,6 +162,24 @@ pub fn line_end(db: &[u8], at: usize) -> usize
                 i = n;
             }
             Step::End => return db.len(),
+        }
+    }
+}
+
+// Where the line after the one at a place starts.
+pub fn next_line(db: &[u8], at: usize) -> Next
+    ensures { λ r. ⌜ NextLine (now (db .entry)) at r ⌝ }
+{
+    let mut i = at;
+    loop {
+        match peek(db, i) {
+            Step::Byte(b, n) => {
+                if b == 10 {
+                    return Next::To(n);
+                }
+                i = n;
+            }
+            Step::End => return Next::Last,
         }
     }
 }

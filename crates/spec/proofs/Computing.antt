@@ -44,6 +44,43 @@ use Rattle.spec.specs.Questions.{
   showAnswer,
 }
 use Rattle.spec.specs.Listing.{recordOf, records, listFor, listOutcome, flatText, flatFor, flatOutcome}
+use Rattle.spec.specs.Repair.{
+  linesOf,
+  ownBytes,
+  isDropped,
+  left,
+  pieces,
+  fieldReason,
+  isLink,
+  firstLink,
+  linkOf,
+  fieldPieces,
+  lineLink,
+  withLink,
+  linksAmong,
+  leads,
+  comesBack,
+  linkReason,
+  removedLinks,
+  reasonAt,
+  linkRemovals,
+  partsFrom,
+  partsOf,
+  keptBytes,
+  allKept,
+  endsInBackslash,
+  closed,
+  mendedLine,
+  partRecords,
+  mendLine,
+  mendLines,
+  mended,
+  descriptions,
+  tooManyLines,
+  flattened,
+  putMended,
+  repairOutcome,
+}
 use Rattle.spec.specs.Values.{raisedFrom, raised, changed}
 use Rattle.spec.specs.Sequences.{readByte, perform}
 use Rattle.spec.specs.Position.{repeated, compensations, fillIn, plainOf}
@@ -56,7 +93,10 @@ unfolding holds upto past laterPieces same among valueFrom areDigits leading tra
     grow split fieldsOf withColons size lineSize numberBase numberValue goodNumber stringReading contentReading linkReading namedReading reading
     isIgnoredField allIgnored judged judge verdict visited linkTarget entered follow walk placed texts joinedFields described resolve matches lookup
     canWin hides hidden winningAfter winning valueOf bytesOf put terminalOf terminalFor hitAnswer answerFor flagAnswer numberAnswer decodedOutcome
-    stringFor stringOutcome shown showAnswer recordOf records listFor listOutcome flatText flatFor flatOutcome raisedFrom raised changed readByte perform
+    stringFor stringOutcome shown showAnswer recordOf records listFor listOutcome flatText flatFor flatOutcome linesOf ownBytes isDropped left pieces
+    fieldReason isLink firstLink linkOf fieldPieces lineLink withLink linksAmong leads comesBack linkReason removedLinks reasonAt linkRemovals partsFrom
+    partsOf keptBytes allKept endsInBackslash closed mendedLine partRecords mendLine mendLines mended descriptions tooManyLines flattened putMended
+    repairOutcome raisedFrom raised changed readByte perform
     repeated compensations fillIn plainOf tenths prefixOf padCount prepared preparedAt padsOf outgoing outgoingAt delivered sendOutcome
     sendAtOutcome
 computing = tt

@@ -85,17 +85,17 @@ fields-stop l = split-stops (past 58 l)
 -- ---- a text without a colon, then a colon
 
 module _ (s : List ℕ) where
-  upto-colon : (f : List ℕ) → Free 58 f → upto 58 (f ++ 58 ∷ s) ≡ f
+  pub upto-colon : (f : List ℕ) → Free 58 f → upto 58 (f ++ 58 ∷ s) ≡ f
   unfolding upto
   upto-colon [] h = refl
   upto-colon (b ∷ f) h = rw (ne-eqb b 58 (h .0)) (ap (λ (l : List ℕ). b ∷ l) (upto-colon f (h .1)))
 
-  past-colon : (f : List ℕ) → Free 58 f → past 58 (f ++ 58 ∷ s) ≡ s
+  pub past-colon : (f : List ℕ) → Free 58 f → past 58 (f ++ 58 ∷ s) ≡ s
   unfolding past
   past-colon [] h = refl
   past-colon (b ∷ f) h = rw (ne-eqb b 58 (h .0)) (past-colon f (h .1))
 
-  split-colon : (f : List ℕ) → Free 58 f → split (f ++ 58 ∷ s) ≡ f ∷ split s
+  pub split-colon : (f : List ℕ) → Free 58 f → split (f ++ 58 ∷ s) ≡ f ∷ split s
   unfolding split grow
   split-colon [] h = refl
   split-colon (b ∷ f) h = rw (ne-eqb b 58 (h .0), split-colon f (h .1))

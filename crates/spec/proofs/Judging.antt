@@ -127,7 +127,7 @@ named-good a (b ∷ l) n e = go (isTc a b) (idBytes a b) e
     go false true q = absurd (not-content a b l n q)
     go false false q = let z : _≡_ {A = ℕ} 0 1 = cc in absurd (omega arith)
 
-reading-good : (t n : List ℕ) → reading t ≡ link n → goodName n ≡ true
+pub reading-good : (t n : List ℕ) → reading t ≡ link n → goodName n ≡ true
 unfolding reading
 reading-good [] n e = let z : _≡_ {A = ℕ} 0 1 = cc in absurd (omega arith)
 reading-good (a ∷ l) n e = go (either (blank (a ∷ l)) (eqb a 46)) e

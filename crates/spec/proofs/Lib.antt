@@ -25,3 +25,10 @@ pub mod PaddingLaws
 pub mod KindNumbers
 pub mod Stores
 pub mod ListingBounds
+pub mod LinkRings
+pub mod LaterLinks
+pub mod RisingLines
+pub mod Chunks
+pub mod KeptFields
+pub mod NoLonger
+pub mod RecordRoom

@@ -13,6 +13,8 @@ use Rattle.spec.specs.declared.Written.{Written}
 use Rattle.spec.specs.declared.Written.the-variants.{Count, Refused as NotWritten}
 use Rattle.spec.specs.declared.Shown.{Shown}
 use Rattle.spec.specs.declared.Shown.the-variants.{Part, Refused as NotShown}
+use Rattle.spec.specs.declared.Repaired.{Repaired}
+use Rattle.spec.specs.declared.Repaired.the-variants.{Counts, Refused as NotRepaired}
 
 pub record Outcome (A : Type 0) : Type 0 where
   pub answer : A
@@ -53,3 +55,8 @@ writtenReport (NotWritten r) = refusedReport r
 abbrev pub shownReport : Shown → Report
 shownReport (Part from to) = record { refusal = 0; values = from ∷ to ∷ [] }
 shownReport (NotShown r) = refusedReport r
+
+-- Of Repair: the bytes of the mended database, and the number of records.
+abbrev pub repairedReport : Repaired → Report
+repairedReport (Counts bytes records) = record { refusal = 0; values = bytes ∷ records ∷ [] }
+repairedReport (NotRepaired r) = refusedReport r

@@ -4,10 +4,11 @@ use Prim.Native.Char.{code}
 use Prim.Native.String.{String as Chars}
 use mathlib.Core.Path.{_≡_}
 use mathlib.Core.List.{List, [], _∷_, _++_, map}
-use lib.ListN.{replicate}
-use Rattle.spec.specs.Answers.{Outcome, keeping, Report, answerReport, writtenReport}
+use lib.ListN.{length, replicate}
+use Rattle.spec.specs.Answers.{Outcome, keeping, Report, answerReport, writtenReport, repairedReport}
 use Rattle.spec.specs.Questions.{showReport, flagReport, numberReport, stringOutcome}
 use Rattle.spec.specs.Listing.{listOutcome, flatOutcome}
+use Rattle.spec.specs.Repair.{RepairOutcome, flattened, repairOutcome}
 use Rattle.spec.specs.Sending.{sendOutcome, sendAtOutcome}
 
 -- The bytes of a text in ASCII.
@@ -16,7 +17,8 @@ ascii Chars.[] = []
 ascii (Chars._∷_ c s) = code c ∷ ascii s
 
 -- A call. Those with output have a buffer of so many bytes (the last number), all 255. Send is for so many lines at a speed, with the pad
--- byte 0; Send at for a row and a column, with a back and an up string, for one line at speed 0.
+-- byte 0; Send at for a row and a column, with a back and an up string, for one line at speed 0. Repair has two buffers, the second for its
+-- records; they are stated one after the other.
 pub data Call : Type 0 where
   show : Chars → Chars → Call
   flag : Chars → Chars → Chars → Call
@@ -24,6 +26,7 @@ pub data Call : Type 0 where
   string : Chars → Chars → Chars → ℕ → Call
   list : Chars → Chars → ℕ → Call
   flat : Chars → Chars → ℕ → Call
+  repair : Chars → ℕ → ℕ → Call
   send : List ℕ → ℕ → ℕ → ℕ → Call
   sendAt : List ℕ → ℕ → ℕ → List ℕ → List ℕ → ℕ → Call
 
@@ -33,6 +36,9 @@ reported f o = record { answer = f (o .answer); buffer = o .buffer }
 abbrev pub lent : ℕ → List ℕ
 lent room = replicate room 255
 
+abbrev pub bothBuffers : RepairOutcome → Outcome Report
+bothBuffers o = record { answer = repairedReport (o .answer); buffer = o .text ++ o .records }
+
 -- The report of the answer, and the buffer afterwards.
 abbrev pub computed : Call → Outcome Report
 computed (show db name) = keeping (showReport (ascii db) (ascii name)) []
@@ -41,6 +47,7 @@ computed (number db name id) = keeping (numberReport (ascii db) (ascii name) (as
 computed (string db name id room) = reported answerReport (stringOutcome (ascii db) (ascii name) (ascii id) (lent room))
 computed (list db name room) = reported writtenReport (listOutcome (ascii db) (ascii name) (lent room))
 computed (flat db name room) = reported writtenReport (flatOutcome (ascii db) (ascii name) (lent room))
+computed (repair db room more) = bothBuffers (repairOutcome (ascii db) (lent room) (lent more))
 computed (send cmd lines speed room) = reported writtenReport (sendOutcome cmd lines speed 0 (lent room))
 computed (sendAt cmd row column back up room) = reported writtenReport (sendAtOutcome cmd row column back up 1 0 0 (lent room))
 
@@ -51,6 +58,10 @@ reports values bytes rest = record { answer = record { refusal = 0; values = val
 
 abbrev pub refuses : ℕ → ℕ → Outcome Report
 refuses n rest = record { answer = record { refusal = n; values = [] }; buffer = lent rest }
+
+-- A repair that writes this text and these records, and leaves so many bytes of each buffer.
+abbrev pub mends : Chars → ℕ → List (List ℕ) → ℕ → Outcome Report
+mends text rest records more = reports (length (ascii text) ∷ length records ∷ []) (ascii text ++ lent rest ++ flattened records) more
 
 pub record Example : Type 0 where
   pub call : Call

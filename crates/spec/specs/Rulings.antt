@@ -2,7 +2,8 @@
 use Prim.Native.Nat.{ℕ}
 use mathlib.Core.List.{List, [], _∷_, _++_}
 use lib.ListN.{replicate}
-use Rattle.spec.specs.Calls.{ascii, show, flag, number, string, list, send, sendAt, reports, refuses, Example, example, AllHold}
+use Rattle.spec.specs.Calls.{ascii, show, flag, number, string, list, repair, send, sendAt, reports, refuses, mends, Example, example, AllHold}
+use Rattle.spec.specs.Repair.{removalRecord}
 
 -- ---- lines and names
 
@@ -79,6 +80,48 @@ fieldRulings =
     ∷ example (flag "a|b:tc=b:\nb:am:" "a" "am") (refuses 7 0)
     -- a cancel hides fields of later descriptions
     ∷ example (flag "n:am@:tc=m:\nm:am:" "n" "am") (reports [] [] 0)
+    ∷ []
+
+-- ---- repair (document 02, Ask 2)
+
+abbrev pub repairRulings : List Example
+repairRulings =
+    -- a record is line, place, reason and count, each four bytes
+    example (repair "# c\nn:am:x" 10 16) (mends "# c\nn:am:\n" 0 ((0 ∷ 0 ∷ 0 ∷ 1 ∷ 0 ∷ 0 ∷ 0 ∷ 5 ∷ 0 ∷ 0 ∷ 0 ∷ 2 ∷ 0 ∷ 0 ∷ 0 ∷ 1 ∷ []) ∷ []) 0)
+    -- a line without a colon is dropped with its newline, which is not counted; ignored lines are counted and stay
+    ∷ example (repair "# c:tc=q:\n\nm\n \t\nn:am:\n" 21 18) (mends "# c:tc=q:\n\n \t\nn:am:\n" 1 (removalRecord 2 0 1 1 ∷ []) 2)
+    -- a field's colon is counted, and the last field may have none; a changed line is closed by a newline, an unchanged one is as it was
+    ∷ example (repair "n:x:am:y" 6 32) (mends "n:am:\n" 0 (removalRecord 0 2 2 2 ∷ removalRecord 0 7 2 1 ∷ []) 0)
+    ∷ example (repair "n:x:\nn:am" 7 16) (mends "n:\nn:am" 0 (removalRecord 0 2 2 2 ∷ []) 0)
+    -- a changed line is written joined; places are those of the joined line
+    ∷ example (repair "n|\\\nm:\\\n x:am:\n" 8 16) (mends "n|m:am:\n" 0 (removalRecord 0 4 2 3 ∷ []) 0)
+    ∷ example (repair "n:am:\r\n" 6 16) (mends "n:am:\n" 0 (removalRecord 0 5 2 1 ∷ []) 0)
+    -- malformed comes before what follows a link; a first link is the first that is well formed; ignored fields stay
+    ∷ example (repair "n:tc=:am:tc=m:tc:tc=n:.x:co:\nm:\n" 17 64)
+    (mends "n:am:tc=m:.x:\nm:\n" 0 (removalRecord 0 2 2 4 ∷ removalRecord 0 14 2 3 ∷ removalRecord 0 17 3 5 ∷ removalRecord 0 25 3 3 ∷ []) 0)
+    -- what follows a link does not come back when the link goes
+    ∷ example (repair "n:tc=q:am:\n" 3 32) (mends "n:\n" 0 (removalRecord 0 2 4 5 ∷ removalRecord 0 7 3 3 ∷ []) 0)
+    -- a dropped line neither answers nor shadows
+    ∷ example (repair "m\nn:tc=m:\n" 3 32) (mends "n:\n" 0 (removalRecord 0 0 1 1 ∷ removalRecord 1 2 4 5 ∷ []) 0)
+    ∷ example (repair "m\nn:tc=m:\nm:\n" 11 16) (mends "n:tc=m:\nm:\n" 0 (removalRecord 0 0 1 1 ∷ []) 0)
+    -- only the first line of a ring loses its link; a line that leads into one keeps it
+    ∷ example (repair "a:tc=b:\nb:tc=c:\nc:tc=b:\n" 19 16) (mends "a:tc=b:\nb:\nc:tc=b:\n" 0 (removalRecord 1 2 5 5 ∷ []) 0)
+    ∷ example (repair "a:tc=a:tc=b:\nb:tc=a:\n" 11 32) (mends "a:\nb:tc=a:\n" 0 (removalRecord 0 2 5 5 ∷ removalRecord 0 7 3 5 ∷ []) 0)
+    -- a link that leads to a line with a lost link is not lost
+    ∷ example (repair "a:tc=b:\nb:tc=q:\n" 11 16) (mends "a:tc=b:\nb:\n" 0 (removalRecord 1 2 4 5 ∷ []) 0)
+    -- lines that no name finds are mended too, and are no part of a ring
+    ∷ example (repair "n:am:\nn:x:tc=n:\n" 14 16) (mends "n:am:\nn:tc=n:\n" 0 (removalRecord 1 2 2 2 ∷ []) 0)
+    -- a colon before the newline, where a backslash would take it away; a dot's field too
+    ∷ example (repair "n:x:le=\\\\\\\n\nm:am:\n" 15 16) (mends "n:le=\\\\:\nm:am:\n" 0 (removalRecord 0 2 2 2 ∷ []) 0)
+    ∷ example (repair "n:x:.\\" 6 16) (mends "n:.\\:\n" 0 (removalRecord 0 2 2 2 ∷ []) 0)
+    -- the same line unchanged keeps its bytes, the pair too
+    ∷ example (repair "n:le=\\\\\\\n\nm:am:\n" 16 0) (mends "n:le=\\\\\\\n\nm:am:\n" 0 [] 0)
+    -- nothing, and nothing to mend
+    ∷ example (repair "" 0 0) (mends "" 0 [] 0)
+    ∷ example (repair "x|n:am:tc=m: :\nm:le=^\\" 22 0) (mends "x|n:am:tc=m: :\nm:le=^\\" 0 [] 0)
+    -- no room in either buffer: both keep every byte
+    ∷ example (repair "n:x:\n" 2 17) (refuses 9 19)
+    ∷ example (repair "n:x:\n" 4 15) (refuses 9 19)
     ∷ []
 
 -- ---- filling in
@@ -158,4 +201,4 @@ paddingRulings =
     ∷ []
 
 abbrev pub Ruled : Type 0
-Ruled = AllHold lineRulings × AllHold fieldRulings × AllHold positionRulings × AllHold paddingRulings
+Ruled = AllHold lineRulings × AllHold fieldRulings × AllHold repairRulings × AllHold positionRulings × AllHold paddingRulings

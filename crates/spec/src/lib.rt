@@ -9,6 +9,9 @@ pub mod position;
 // A database of more bytes is refused with 3.
 pub const MOST_BYTES: usize = 1048576;
 
+// A database with more lines that are not ignored is not repaired: 14.
+pub const MOST_LINES: usize = 4096;
+
 // Why a call is refused. specs/Refusals gives each its number.
 pub enum Refusal {
     BadName,
@@ -24,6 +27,7 @@ pub enum Refusal {
     TooFewParameters,
     OutOfRange,
     BadPadding,
+    TooManyLines,
 }
 
 impl Refusal {
@@ -44,6 +48,7 @@ impl Refusal {
             Refusal::TooFewParameters => 11,
             Refusal::OutOfRange => 12,
             Refusal::BadPadding => 13,
+            Refusal::TooManyLines => 14,
         }
     }
 }
@@ -100,6 +105,12 @@ pub enum Answer {
 // The answer of List, Flat, Send and Send at: the number of records, or of bytes, that were written.
 pub enum Written {
     Count(usize),
+    Refused(Refusal),
+}
+
+// The answer of Repair: the bytes of the mended database, and the number of records.
+pub enum Repaired {
+    Counts(usize, usize),
     Refused(Refusal),
 }
 

@@ -22,6 +22,11 @@ lengthOr [] old = old
 lengthOr (from ∷ []) old = old
 lengthOr (from ∷ to ∷ vs) old = to - from
 
+abbrev pub secondOr : List ℕ → ℕ → ℕ
+secondOr [] old = old
+secondOr (v ∷ []) old = old
+secondOr (v ∷ w ∷ vs) old = w
+
 -- The value of a question, a count, or the start of a shown part.
 abbrev pub storedValue : Report → ℕ → ℕ
 storedValue p old = firstOr (p .values) old
@@ -29,3 +34,7 @@ storedValue p old = firstOr (p .values) old
 -- The length of a shown part.
 abbrev pub storedLength : Report → ℕ → ℕ
 storedLength p old = lengthOr (p .values) old
+
+-- The number of a repair's records.
+abbrev pub storedSecond : Report → ℕ → ℕ
+storedSecond p old = secondOr (p .values) old

@@ -1,4 +1,4 @@
-// The library in one place: the operations of document 01 with their answers, the opened reader, and the C functions, which give each
+// The library in one place: the operations of documents 01 and 02 with their answers, the opened reader, and the C functions, which give each
 // result as a number. A slice passes to C as a pointer and a length; the reader has no C functions.
 pub use listing::flat;
 pub use listing::list;
@@ -10,6 +10,7 @@ pub use reader::flag as reader_flag;
 pub use reader::number as reader_number;
 pub use reader::open as reader_open;
 pub use reader::show as reader_show;
+pub use repair::repair;
 pub use sending::send;
 pub use sending::send_at;
 pub use show::show;
@@ -17,14 +18,16 @@ pub use show::show_part;
 pub use spec::Answer;
 pub use spec::Kind;
 pub use spec::Refusal;
+pub use spec::Repaired;
 pub use spec::Shown;
 pub use spec::Written;
 ghost use mathlib.Core.Path.{_≡_};
 ghost use Rattle.spec.specs.Answers.{answerReport, writtenReport};
 ghost use Rattle.spec.specs.Questions.{showReport, flagReport, numberReport, stringOutcome, stringReport};
 ghost use Rattle.spec.specs.Listing.{listOutcome, listReport, flatOutcome, flatReport};
+ghost use Rattle.spec.specs.Repair.{repairOutcome, repairReport};
 ghost use Rattle.spec.specs.Sending.{sendOutcome, sendReport, sendAtOutcome, sendAtReport};
-ghost use Rattle.termcap.specs.Results.{resultOf, storedValue, storedLength};
+ghost use Rattle.termcap.specs.Results.{resultOf, storedValue, storedLength, storedSecond};
 
 // The result of a question; a value is stored if it is present.
 fn give_answer(a: Answer, value: &mut u64) -> u32
@@ -117,6 +120,31 @@ pub extern "C" fn termcap_flat(db: &[u8], name: &[u8], out: &mut [u8], count: &m
         × (now (count .exit) ≡ storedValue (flatReport (now (db .entry)) (now (name .entry)) (now (out .entry))) (now (count .entry))) ⌝ }
 {
     give_count(flat(db, name, out), count)
+}
+
+// "A mended database, and a 16-byte record for each thing removed": `out` gets the one, `records` the others.
+#[no_mangle]
+pub extern "C" fn termcap_repair(
+    db: &[u8],
+    out: &mut [u8],
+    records: &mut [u8],
+    count: &mut u64,
+    removed: &mut u64,
+) -> u32
+    ensures { λ r. ⌜ (r ≡ resultOf (repairReport (now (db .entry)) (now (out .entry)) (now (records .entry))))
+        × (now (out .exit) ≡ repairOutcome (now (db .entry)) (now (out .entry)) (now (records .entry)) .text)
+        × (now (records .exit) ≡ repairOutcome (now (db .entry)) (now (out .entry)) (now (records .entry)) .records)
+        × (now (count .exit) ≡ storedValue (repairReport (now (db .entry)) (now (out .entry)) (now (records .entry))) (now (count .entry)))
+        × (now (removed .exit) ≡ storedSecond (repairReport (now (db .entry)) (now (out .entry)) (now (records .entry))) (now (removed .entry))) ⌝ }
+{
+    match repair(db, out, records) {
+        Repaired::Counts(bytes, number) => {
+            *count = bytes as u64;
+            *removed = number as u64;
+            0
+        }
+        Repaired::Refused(r) => r.number() as u32,
+    }
 }
 
 #[no_mangle]

@@ -8,7 +8,7 @@ use std::sync::atomic::{AtomicU64, Ordering};
 use std::thread;
 use std::time::{Duration, Instant};
 
-use termcap_tests::case::{disagreement, Case};
+use termcap_tests::case::{disagreement, Case, Operation};
 use termcap_tests::shrink::shrink;
 use termcap_tests::{examples, generate, mix};
 
@@ -16,15 +16,19 @@ use termcap_tests::{examples, generate, mix};
 mod library;
 use library::Library;
 
-const USAGE: &str = "[--seed S] [--cases N] [--from I] [--no-examples] [--trace] [--mix]";
+const USAGE: &str =
+    "[--seed S] [--cases N] [--from I] [--only OPERATION] [--no-examples] [--trace] [--mix]";
 const SHRINKING_TIME: Duration = Duration::from_secs(30);
 const STUCK_AFTER: Duration = Duration::from_secs(60);
 
+#[derive(Clone, Copy)]
 struct Options {
     seed: u64,
     cases: u64,
     /// The first case: case I of a seed is the same in every run.
     from: u64,
+    /// Only cases of this operation.
+    only: Option<Operation>,
     /// Asks the answers written by hand first.
     examples: bool,
     /// Names each case before it runs, to find one that doesn't come back.
@@ -55,10 +59,21 @@ fn main() -> ExitCode {
 }
 
 fn read_options() -> Result<Options, String> {
-    let mut options =
-        Options { seed: 1, cases: 200_000, from: 0, examples: true, trace: false, mix: false };
+    let mut options = Options {
+        seed: 1,
+        cases: 200_000,
+        from: 0,
+        only: None,
+        examples: true,
+        trace: false,
+        mix: false,
+    };
     let mut arguments = std::env::args().skip(1);
     while let Some(argument) = arguments.next() {
+        if argument == "--only" {
+            options.only = Some(read_operation(arguments.next())?);
+            continue;
+        }
         let mut number = || {
             let text = arguments.next().ok_or(format!("{argument} needs a number"))?;
             text.parse().map_err(|_| format!("{text} is no number for {argument}"))
@@ -74,6 +89,13 @@ fn read_options() -> Result<Options, String> {
         }
     }
     Ok(options)
+}
+
+/// An operation by its name, as the case that is printed has it.
+fn read_operation(name: Option<String>) -> Result<Operation, String> {
+    let name = name.ok_or("--only needs an operation")?;
+    let found = Operation::ALL.into_iter().find(|one| format!("{one:?}") == name);
+    found.ok_or(format!("there is no operation {name}"))
 }
 
 /// The answers written by hand; all of them are tried, so that a first run says more.
@@ -93,16 +115,17 @@ static RUNNING: AtomicU64 = AtomicU64::new(u64::MAX);
 
 fn run_cases(options: &Options) -> bool {
     let seed = options.seed;
-    thread::spawn(move || watch(seed));
+    let watched = *options;
+    thread::spawn(move || watch(&watched));
     let start = Instant::now();
     let every = (options.cases / 10).max(1);
     for done in 0..options.cases {
         let index = options.from + done;
+        let case = generated(options, index);
         RUNNING.store(index, Ordering::Relaxed);
         if options.trace {
             eprintln!("case {index}");
         }
-        let case = generate::case(seed, index);
         if let Some(complaint) = disagreement(&case, &Library) {
             RUNNING.store(u64::MAX, Ordering::Relaxed);
             report(seed, index, done + 1, &case, &complaint);
@@ -117,8 +140,15 @@ fn run_cases(options: &Options) -> bool {
     true
 }
 
+fn generated(options: &Options, index: u64) -> Case {
+    match options.only {
+        None => generate::case(options.seed, index),
+        Some(operation) => generate::case_of(operation, options.seed, index),
+    }
+}
+
 /// Ends the run if one case takes far too long.
-fn watch(seed: u64) {
+fn watch(options: &Options) {
     let mut last = u64::MAX;
     let mut since = Instant::now();
     loop {
@@ -128,10 +158,8 @@ fn watch(seed: u64) {
             last = running;
             since = Instant::now();
         } else if since.elapsed() > STUCK_AFTER {
-            println!(
-                "case {running} of seed {seed} doesn't end\n{}",
-                generate::case(seed, running)
-            );
+            println!("case {running} of seed {} doesn't end", options.seed);
+            println!("{}", generated(options, running));
             std::process::exit(1);
         }
     }

@@ -74,6 +74,11 @@ fn live_id(random: &mut Random, case: &Case, kind: u8) -> Option<Vec<u8>> {
     }
 }
 
+/// Any database, for an operation that takes no name.
+pub fn any(random: &mut Random) -> Vec<u8> {
+    database(random, 8).text
+}
+
 /// A database, and a name in it that is worth asking for.
 struct Made {
     text: Vec<u8>,
@@ -202,20 +207,20 @@ fn edge_id(random: &mut Random) -> Vec<u8> {
 // ---------------------------------------------------------------------------------------------
 
 /// A few ids for one database, so that fields of one name meet.
-fn theme(random: &mut Random) -> Vec<&'static [u8]> {
+pub fn theme(random: &mut Random) -> Vec<&'static [u8]> {
     let count = random.between(1, 5);
     (0..count).map(|_| random.pick(&IDS)).collect()
 }
 
 /// One line being made: names, fields, and how it ends.
-struct Line {
-    names: Vec<Vec<u8>>,
-    fields: Vec<Vec<u8>>,
+pub struct Line {
+    pub names: Vec<Vec<u8>>,
+    pub fields: Vec<Vec<u8>>,
     last_colon: bool,
 }
 
 impl Line {
-    fn new(random: &mut Random, names: Vec<Vec<u8>>) -> Line {
+    pub fn new(random: &mut Random, names: Vec<Vec<u8>>) -> Line {
         Line { names, fields: Vec::new(), last_colon: !random.chance(15) }
     }
 
@@ -235,7 +240,7 @@ impl Line {
         self.names.join(&b'|').len() + 1 + fields
     }
 
-    fn link(&mut self, random: &mut Random, name: &[u8]) {
+    pub fn link(&mut self, random: &mut Random, name: &[u8]) {
         self.fields.push([b"tc=", name].concat());
         if random.chance(20) {
             self.fields.push(ignored_field(random));
@@ -293,7 +298,7 @@ fn shuffle<T>(random: &mut Random, things: &mut [T]) {
 }
 
 /// The lines as text, with comments and blank lines between some of them.
-fn lay_out(random: &mut Random, lines: &[Line]) -> Vec<u8> {
+pub fn lay_out(random: &mut Random, lines: &[Line]) -> Vec<u8> {
     const BETWEEN: [&[u8]; 12] = [
         b"\n", b" \n", b"\t \n", b"# comment\n", b"#a|b:am:\n", b"#\n", b" \\\n\t\n", b"#c\\\n",
         b"#c\\\\\n", b"\\\n#d:am\n", b"\\\n", b" #e\n",
@@ -331,7 +336,7 @@ fn in_the_usual_style(line: &[u8]) -> Vec<u8> {
     text
 }
 
-fn field(random: &mut Random, ids: &[&[u8]]) -> Vec<u8> {
+pub fn field(random: &mut Random, ids: &[&[u8]]) -> Vec<u8> {
     let id = ids[random.below(ids.len())];
     match random.weighted(&[22, 20, 30, 13, 15]) {
         0 => id.to_vec(),
@@ -391,7 +396,7 @@ fn damaged(random: &mut Random) -> Made {
 }
 
 /// One edit.
-fn damage(random: &mut Random, text: &mut Vec<u8>) {
+pub fn damage(random: &mut Random, text: &mut Vec<u8>) {
     match random.weighted(&[20, 18, 16, 8, 6, 4, 28]) {
         0 if !text.is_empty() => {
             let place = random.below(text.len());
@@ -433,7 +438,7 @@ fn spoil_field(random: &mut Random, text: &mut Vec<u8>) {
 }
 
 /// Fields at the edges of the rules, most of them malformed.
-fn edge_field(random: &mut Random) -> Vec<u8> {
+pub fn edge_field(random: &mut Random) -> Vec<u8> {
     const SHAPES: [&[u8]; 26] = [
         b" am", b"am ", b"\tam", b" .x", b"a", b".", b"am@x", b"am@@", b"am@", b"am\t", b"amx",
         b"co", b"co#1x", b"co#-1", b"co# 1", b"co#+1", b"a\\", b"\\a", b"a\x7f", b"a ", b"!~",
