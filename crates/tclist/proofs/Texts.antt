@@ -1,18 +1,15 @@
--- The text of an answer: digits as `io` writes them, and the bytes of records one after the other. Assumes nothing.
-use Prim.Native.Nat.{ℕ, zero, suc, _+_, _*_, _/_, _%_, _^_, _≤_, _<_}
-use mathlib.Core.Path.{_≡_, refl, sym, ap, ap₂, _∙_}
+-- The text of an answer: the bytes of records one after the other. Assumes nothing.
+use Prim.Native.Nat.{ℕ, _+_, _*_, _≤_, _<_}
+use mathlib.Core.Path.{_≡_, refl, sym, ap, _∙_}
 use mathlib.Core.List.{List, [], _∷_, _++_}
-use native.Mathlib.Nat.{pow-suc, mod-lt}
 use native.Mathlib.Numerals.{add-one}
 use native.Mathlib.Omega.{arith}
-use borrow.Author.Tests.{lt-ltb, leb-true}
+use borrow.Author.Tests.{leb-true}
 use lib.Dec.{leb}
 use lib.ListN.{length, drop, getD, set, drop-of-length-le}
-use lib.Seq.{sets, drop-cons, length-take-le}
-use Rattle.bytes.specs.Bytes.{indexOf, slice}
-use Rattle.io.specs.Digits.{digits, Fewest}
-use Rattle.spec.specs.Digits.{spell, written}
-use Rattle.spec.proofs.DigitLaws.{spell-last, spell-length, written-is, written-most}
+use lib.Seq.{sets, drop-cons}
+use Rattle.spec.specs.Digits.{written}
+use Rattle.spec.proofs.DigitLaws.{written-most}
 use Rattle.spec.proofs.Stores.{stored-append}
 use Rattle.spec.specs.Chain.{Terminal, refused, terminal}
 use Rattle.spec.specs.Lookup.{winning}
@@ -24,25 +21,7 @@ use Rattle.spec.specs.declared.Written.the-variants.{Count}
 use Rattle.spec.proofs.Tests.{pick-told}
 use Rattle.spec.proofs.Records.{records-length}
 use Rattle.spec.proofs.Winning.{winning-wins}
-use Rattle.tclist.specs.Output.{separatorOf, decimals, LineRead}
-use Rattle.tclist.specs.declared.Input.the-variants.{Bytes}
-
-digits-spelled : (k n : ℕ) → n < 10 ^ k → digits 10 k n ≡ spell 10 k n
-unfolding spell
-digits-spelled zero n h = refl
-digits-spelled (suc k) n h =
-    let below : n / 10 < 10 ^ k = (let g : n < 10 ^ k * 10 = rw pow-suc at h in omega arith) in
-    let low : n % 10 < 10 = mod-lt n (omega arith) in
-    ap₂ (λ (l : List ℕ) (d : ℕ). l ++ (d ∷ [])) (digits-spelled k (n / 10) below) (rw (lt-ltb (n % 10) 10 low))
-    ∙ sym (spell-last 10 k n (omega arith) h)
-
--- the fewest digits are those that are written
-module _ (n k : ℕ) (f : Fewest 10 1 n k) where
-  pub digits-written : digits 10 k n ≡ written 10 1 n
-  digits-written = digits-spelled k n (f .1) ∙ sym (written-is 10 1 n (omega arith) k f)
-
-  pub written-length : length (written 10 1 n) ≡ k
-  written-length = ap length (written-is 10 1 n (omega arith) k f) ∙ spell-length 10 k n
+use Rattle.tclist.specs.Output.{separatorOf, decimals}
 
 pub byte-short : (b : ℕ) → b < 1000 → length (written 10 1 b) ≤ 3
 byte-short b h = written-most 10 1 b (omega arith) 3 (omega arith) h
@@ -60,12 +39,6 @@ module _ (l : List ℕ) (k : ℕ) where
   pub decimals-next : k < length l → decimals k (drop k l) ≡ written 10 1 (getD l k 0) ++ separatorOf k ∷ decimals (k + 1) (drop (k + 1) l)
   unfolding decimals
   decimals-next h = ap (decimals k) (drop-cons l k 0 h) ∙ rw add-one
-
--- the bytes before the first newline of those that were read
-pub line-read : (buffer : List ℕ) (m n : ℕ) → m ≤ length buffer → n ≤ m → n ≡ 0 + indexOf 10 (slice 0 m buffer) → LineRead (Bytes n) buffer
-line-read buffer m n h i e =
-    let inside : n ≤ length buffer = omega arith in
-    ((inside, sym (length-take-le n buffer inside)), (m, h, omega arith))
 
 -- the records that are reported lie within the buffer
 pub list-fits : (db name buffer : List ℕ) (n : ℕ) → listOutcome db name buffer .answer ≡ Count n → 8 * n ≤ length buffer

@@ -1,19 +1,15 @@
--- What tclist writes for an answer of List, and what its reads may answer.
-use Prim.Native.Nat.{ℕ, _+_, _*_, _%_, _≤_}
+-- What tclist writes for an answer of List.
+use Prim.Native.Nat.{ℕ, _+_, _*_, _%_}
 use mathlib.Core.Path.{_≡_}
 use mathlib.Core.List.{List, [], _∷_, _++_}
 use lib.Dec.{eqb}
 use lib.ListN.{length, take}
 use lib.Seq.{sets}
-use Rattle.io.specs.Counts.{Counts}
-use Rattle.bytes.specs.Bytes.{indexOf, slice}
 use Rattle.spec.specs.Choice.{pick}
 use Rattle.spec.specs.Digits.{written}
 use Rattle.spec.specs.Refusals.{refusalNumber}
 use Rattle.spec.specs.declared.Written.{Written}
 use Rattle.spec.specs.declared.Written.the-variants.{Count, Refused}
-use Rattle.tclist.specs.declared.Input.{Input}
-use Rattle.tclist.specs.declared.Input.the-variants.{Bytes, Failed}
 
 -- After the last byte of a record stands a newline (10), after any other a space (32).
 abbrev pub separatorOf : ℕ → ℕ
@@ -32,18 +28,3 @@ answerText (Refused r) records = written 10 1 (refusalNumber r) ++ 10 ∷ []
 -- A text that was put at the start of a buffer, and its length.
 abbrev pub PutText : List ℕ → ℕ → List ℕ → List ℕ → Type 0
 PutText text n out out′ = (n ≡ length text) × (out′ ≡ sets out 0 text)
-
--- So many bytes of a buffer.
-abbrev pub Within : Input → List ℕ → Type 0
-Within (Bytes n) buffer = Counts n buffer
-Within Failed buffer = Unit {0}
-
--- No fewer than before.
-abbrev pub MoreRead : ℕ → Input → List ℕ → Type 0
-MoreRead used (Bytes n) buffer = (used ≤ n) × (n ≤ length buffer)
-MoreRead used Failed buffer = Unit {0}
-
--- Of the m bytes that were read, those before the first newline (10); all of them, if there is none.
-abbrev pub LineRead : Input → List ℕ → Type 0
-LineRead (Bytes n) buffer = Counts n buffer × ((m : ℕ) × (m ≤ length buffer) × (n ≡ indexOf 10 (slice 0 m buffer)))
-LineRead Failed buffer = Unit {0}

@@ -1,15 +1,15 @@
 // Prints the listing of a terminal: `tclist FILE`, with the terminal's name on the first line of standard input. What goes wrong is
 // reported on standard error, and then nothing is printed. A program has no exit status to tell it by.
-use bytes::scan::find;
 use check::same;
 use libc::STDERR_FILENO;
 use libc::STDIN_FILENO;
-use libc::STDOUT_FILENO;
 use listing::list;
+use program_io::Input;
+use program_io::read_file;
+use program_io::read_line;
 use spec::Refusal;
 use spec::Written;
 use stores::put_byte;
-use stores::put_bytes;
 ghost use Prim.Native.Nat.{_+_, _*_, _≤_};
 ghost use mathlib.Core.Path.{_≡_};
 ghost use lib.ListN.{length};
@@ -18,7 +18,7 @@ ghost use Rattle.io.specs.Counts.{Counts};
 ghost use Rattle.spec.specs.Digits.{written};
 ghost use Rattle.spec.specs.Listing.{listOutcome};
 ghost use Rattle.spec.specs.declared.Written.the-variants.{Refused};
-ghost use Rattle.tclist.specs.Output.{separatorOf, decimals, answerText, PutText, Within, MoreRead, LineRead};
+ghost use Rattle.tclist.specs.Output.{separatorOf, decimals, answerText, PutText};
 
 // The most bytes of a file that is searched, and room to see that a file has more.
 const MOST_BYTES: usize = 65536;
@@ -42,10 +42,7 @@ fn put_decimal(out: &mut [u8], at: usize, b: u8) -> usize
     requires { ⌜ at ≤ 1000000 ⌝ }
     ensures { λ r. ⌜ (r ≡ at + length (written 10 1 b)) × (now (out .exit) ≡ sets (now (out .entry)) at (written 10 1 b)) ⌝ }
 {
-    let mut digits = [0u8; 20];
-    let k = io::decimal(b as u64, &mut digits);
-    put_bytes(out, at, &digits[..k]);
-    at + k
+    program_io::put_decimal(out, at, b as u64)
 }
 
 // What stands after a byte of the records: a newline after the last one of a record.
@@ -96,78 +93,15 @@ fn put_listing(db: &[u8], name: &[u8], records: &mut [u8], out: &mut [u8]) -> us
     }
 }
 
-// ---- reading and writing: what is read or written no contract can say
+// ---- the program
 
-// What was read into a buffer: so many bytes.
-enum Input {
-    Bytes(usize),
-    Failed,
-}
-
-// Writes a line to standard error: what failed, and the reason that the system gives.
 fn fail(what: &[u8]) {
-    io::write_all(STDERR_FILENO, b"tclist: ");
-    os::fail(what);
+    program_io::fail(b"tclist", what);
 }
 
 fn print(text: &[u8]) {
-    if !io::write_all(STDOUT_FILENO, text) {
-        fail(b"standard output");
-    }
+    program_io::print(b"tclist", text);
 }
-
-// One read, after the bytes that were read before it. Where none is added, the input has ended.
-fn read_more(file: i32, buffer: &mut [u8], used: usize) -> Input
-    requires { ⌜ used ≤ length (now buffer) ⌝ }
-    ensures { λ r. ⌜ MoreRead used r (now (buffer .exit)) ⌝ }
-{
-    let got = libc::read(file, &mut buffer[used..]);
-    if got < 0 {
-        return Input::Failed;
-    }
-    let more = io::count(got, &buffer[used..]);
-    Input::Bytes(used + more)
-}
-
-// Reads until the file ends or the buffer is full.
-fn read_file(file: i32, buffer: &mut [u8]) -> Input
-    ensures { λ r. ⌜ Within r (now (buffer .exit)) ⌝ }
-{
-    let mut used = 0;
-    while used < buffer.len() {
-        let Input::Bytes(n) = read_more(file, buffer, used) else {
-            return Input::Failed;
-        };
-        if n == used {
-            return Input::Bytes(n);
-        }
-        used = n;
-    }
-    Input::Bytes(used)
-}
-
-// Reads until a newline is there, the input ends or the buffer is full: the bytes before the newline.
-fn read_line(file: i32, buffer: &mut [u8]) -> Input
-    ensures { λ r. ⌜ LineRead r (now (buffer .exit)) ⌝ }
-{
-    let mut used = 0;
-    while used < buffer.len() {
-        let Input::Bytes(n) = read_more(file, buffer, used) else {
-            return Input::Failed;
-        };
-        let end = find(buffer, 0, n, b'\n');
-        if end < n {
-            return Input::Bytes(end);
-        }
-        if n == used {
-            return Input::Bytes(end);
-        }
-        used = n;
-    }
-    Input::Bytes(used)
-}
-
-// ---- the program
 
 fn print_listing(db: &[u8], name: &[u8]) {
     let mut records = [0u8; RECORDS_ROOM];
@@ -186,9 +120,7 @@ fn list_asked(db: &[u8]) {
 
 fn list_database(path: &[u8], db: &[u8]) {
     if db.len() > MOST_BYTES {
-        io::write_all(STDERR_FILENO, b"tclist: ");
-        io::write_all(STDERR_FILENO, path);
-        io::write_all(STDERR_FILENO, b": more than 65536 bytes\n");
+        program_io::report(b"tclist", path, b": more than 65536 bytes\n");
         return;
     }
     list_asked(db);

@@ -1,4 +1,4 @@
--- `tclist::read_line` meets its contract: no newline is among the bytes that were read before. The measure is the room that is left.
+-- `program_io::read_line` meets its contract: no newline is among the bytes that were read before. The measure is the room that is left.
 -- Assumes nothing.
 use Prim.Native.Nat.{_-_, _≤_}
 use mathlib.Core.Path.{_≡_, refl, sym, _∙_}
@@ -7,9 +7,9 @@ use borrow.Author.Needs.{needs}
 use lib.ListN.{length}
 use lib.Seq.{length-take-le}
 use Rattle.bytes.specs.Bytes.{indexOf, slice}
-use Rattle.tclist.proofs.Texts.{line-read}
-use Rattle.tclist.proofs.read_line.Statement.{statement}
-use Rattle.tclist.proofs.read_line.Tie as tie
+use Rattle.program_io.proofs.Texts.{line-read}
+use Rattle.program_io.proofs.read_line.Statement.{statement}
+use Rattle.program_io.proofs.read_line.Tie as tie
 
 abbrev Inv-loop : tie.InvT-loop
 Inv-loop file buffer₀ used₀ buffer used = (used ≤ length buffer) × (length buffer ≡ length buffer₀) × (used ≡ indexOf 10 (slice 0 used buffer))

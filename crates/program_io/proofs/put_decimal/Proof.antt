@@ -1,10 +1,10 @@
--- `tclist::put_decimal` meets its contract: the fewest digits are those that are written. Assumes nothing.
+-- `program_io::put_decimal` meets its contract: the fewest digits are those that are written. Assumes nothing.
 use mathlib.Core.Path.{_∙_}
 use native.Mathlib.Omega.{arith}
 use borrow.Author.Needs.{needs}
-use Rattle.tclist.proofs.Texts.{byte-short, digits-written, written-length}
-use Rattle.tclist.proofs.put_decimal.Statement.{statement}
-use Rattle.tclist.proofs.put_decimal.Tie as tie
+use Rattle.program_io.proofs.Texts.{digits-written, written-length, number-short}
+use Rattle.program_io.proofs.put_decimal.Statement.{statement}
+use Rattle.program_io.proofs.put_decimal.Tie as tie
 
 decimal-requires : tie.Need-decimal-requires
 decimal-requires c κs = search needs
@@ -21,7 +21,7 @@ put-bytes-requires c κs = search needs
 add-result : tie.Need-add-result
 add-result c =
     let e = written-length _ _ (c .before .before .before .before .before .decimal .ensures .1 .0) in
-    omega (arith, byte-short (c .before .before .before .before .before .before .before .before .args .b) (omega arith))
+    omega (arith, number-short (c .before .before .before .before .before .before .before .before .args .n) (omega arith))
 
 same-length : tie.Need-same-length
 same-length c = search needs
@@ -30,7 +30,7 @@ returns : tie.Need-returns
 returns c =
     let d = c .before .before .before .before .before .decimal in
     let e = written-length _ _ (d .ensures .1 .0) in
-    (omega arith, c .before .before .put-bytes .ensures ∙ rw (d .ensures .1 .1, digits-written _ _ (d .ensures .1 .0)))
+    ((omega arith, c .before .before .put-bytes .ensures ∙ rw (d .ensures .1 .1, digits-written _ _ (d .ensures .1 .0))), omega (arith, number-short (c .before .before .before .before .before .before .before .before .args .n) (omega arith)))
 
 pub put-decimal-spec : {M : Type 1} → statement M
 put-decimal-spec =

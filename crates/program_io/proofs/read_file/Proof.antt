@@ -1,12 +1,12 @@
--- `tclist::read_file` meets its contract: what was read lies within the buffer. The measure is the room that is left. Assumes nothing.
+-- `program_io::read_file` meets its contract: what was read lies within the buffer. The measure is the room that is left. Assumes nothing.
 use Prim.Native.Nat.{_-_, _≤_}
 use mathlib.Core.Path.{_≡_, refl, sym, _∙_}
 use native.Mathlib.Omega.{arith}
 use borrow.Author.Needs.{needs}
 use lib.ListN.{length}
 use lib.Seq.{length-take-le}
-use Rattle.tclist.proofs.read_file.Statement.{statement}
-use Rattle.tclist.proofs.read_file.Tie as tie
+use Rattle.program_io.proofs.read_file.Statement.{statement}
+use Rattle.program_io.proofs.read_file.Tie as tie
 
 abbrev Inv-loop : tie.InvT-loop
 Inv-loop file buffer₀ used₀ buffer used = (used ≤ length buffer) × (length buffer ≡ length buffer₀)
