@@ -307,27 +307,28 @@ fn padding_of_motions_is_taken_off_first() {
 
 #[test]
 fn a_refusal_is_told_in_a_sentence_of_its_own() {
-    let texts = (1..=13).map(|number| Refusal::try_from(number).unwrap().to_string());
+    let texts = (1..=14).map(|number| Refusal::try_from(number).unwrap().to_string());
     let mut texts: Vec<String> = texts.collect();
     assert_eq!(texts[3], "no terminal in the database has this name");
     assert_eq!(texts[8], "the output does not fit the buffer");
     texts.sort();
     texts.dedup();
-    assert_eq!(texts.len(), 13);
+    assert_eq!(texts.len(), 14);
 }
 
 #[test]
 fn refusals_and_kinds_have_their_numbers() {
-    for number in 1..=13 {
+    for number in 1..=14 {
         let refusal = Refusal::try_from(number).unwrap();
         assert_eq!(refusal.number(), number);
     }
-    for number in [0, 14, 255, u32::MAX] {
+    for number in [0, 15, 255, u32::MAX] {
         assert_eq!(Refusal::try_from(number), Err(NotARefusal(number)));
     }
     assert_eq!(Refusal::BadName.number(), 1);
     assert_eq!(Refusal::BadPadding.number(), 13);
-    assert_eq!(NotARefusal(14).to_string(), "14 is no refusal number");
+    assert_eq!(Refusal::TooManyLines.number(), 14);
+    assert_eq!(NotARefusal(15).to_string(), "15 is no refusal number");
 
     assert_eq!(Kind::from_number(3), Some(Kind::String));
     assert_eq!(Kind::from_number(4), None);
