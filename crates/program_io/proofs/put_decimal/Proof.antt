@@ -28,9 +28,16 @@ same-length c = search needs
 
 returns : tie.Need-returns
 returns c =
-    let d = c .before .before .before .before .before .decimal in
-    let e = written-length _ _ (d .ensures .1 .0) in
-    ((omega arith, c .before .before .put-bytes .ensures ∙ rw (d .ensures .1 .1, digits-written _ _ (d .ensures .1 .0))), omega (arith, number-short (c .before .before .before .before .before .before .before .before .args .n) (omega arith)))
+    let d5 = c .before .before .before .before .before in
+    let d8 = d5 .before .before .before in
+    let d = d5 .decimal in
+    let e = written-length _ _ (d .ensures .1 .0) in (
+      (omega arith, c .before .before .put-bytes .ensures ∙ rw (d .ensures .1 .1, digits-written _ _ (d .ensures .1 .0))),
+      omega (
+        arith,
+        number-short (d8 .args .n) (omega arith),
+      ),
+    )
 
 pub put-decimal-spec : {M : Type 1} → statement M
 put-decimal-spec =
