@@ -1,1 +1,3 @@
 pub mod AnswerFromReader
+pub mod Operands
+pub mod Passing

@@ -2,6 +2,7 @@
 // itself refuses nothing." Show, Flag and Number are each one call of `show` or `questions`.
 use spec::Answer;
 ghost use mathlib.Core.Path.{_≡_};
+ghost use lib.ListN.{length};
 ghost use Rattle.spec.specs.Answers.{answerReport};
 ghost use Rattle.spec.specs.Questions.{showAnswer, showReport, OwnPart, flagAnswer, flagReport, numberAnswer, numberReport};
 
@@ -9,10 +10,17 @@ pub struct Reader<'a> {
     pub db: &'a [u8],
 }
 
+// What a reader keeps of a database: all of it, by place and length. A function of its own, so that wrong ones can be tried (decision 45).
+fn kept<'a>(db: &'a [u8]) -> &'a [u8]
+    ensures { λ s. ⌜ (s .ptr ≡ db .entry .ptr) × (length (now s) ≡ length (now (db .entry))) ⌝ }
+{
+    &db[0..]
+}
+
 pub fn open<'a>(db: &'a [u8]) -> Reader<'a>
     ensures { λ r. ⌜ r .db ≡ db .entry ⌝ }
 {
-    Reader { db }
+    Reader { db: kept(db) }
 }
 
 pub fn show<'a>(r: Reader<'a>, name: &[u8], refusal: &mut u8) -> &'a [u8]
@@ -20,7 +28,8 @@ pub fn show<'a>(r: Reader<'a>, name: &[u8], refusal: &mut u8) -> &'a [u8]
         × (now (refusal .exit) ≡ showReport (now (r .entry .db)) (now (name .entry)) .refusal) ⌝ }
 {
     let db = r.db;
-    show::show(db, name, refusal)
+    let part = show::show(db, name, refusal);
+    part
 }
 
 pub fn flag<'a>(r: Reader<'a>, name: &[u8], id: &[u8]) -> Answer
