@@ -50,24 +50,22 @@ pub fn print(repairs: &[Repair], targets: &mut Targets) {
         "", "bytes", "removed", "time", "ns/byte", "times"
     );
     let taken = medians(repairs);
-    let mut worst: f64 = 0.0;
     for (Repair { name, database }, nanoseconds) in repairs.iter().zip(&taken) {
         let removed = call(&Library, database).numbers[1];
         let per_byte = nanoseconds / database.len() as f64;
         let times = nanoseconds / taken[0];
-        worst = worst.max(times);
-        let verdict = targets.judge(&format!("Repair, {name}"), "ns per byte", per_byte);
+        let row = format!("Repair, {name}");
+        let verdict = [
+            targets.judge(&row, "ns per byte", per_byte),
+            targets.judge(&row, "the ordinary file", times),
+        ]
+        .concat();
         println!(
             "  {name:48} {:>9} {removed:>8} {:>10} {per_byte:>8.2} {times:>6.2}{verdict}",
             database.len(),
             time(*nanoseconds)
         );
     }
-    let verdict = targets.judge("Repair, the slowest", "the ordinary file", worst);
-    println!(
-        "  {:48} {:>9} {:>8} {:>10} {:>8} {worst:>6.2}{verdict}",
-        "the slowest", "", "", "", ""
-    );
 }
 
 /// The median of each in nanoseconds; they take turns.
