@@ -12,24 +12,25 @@
 #include "termcap_proved.h"
 
 enum { STACK = 1 << 20, PAINT = 0xA5 };
-enum { SHOW, FLAG, NUMBER, STRING, LIST, FLAT, REPAIR, SEND, SEND_AT, CALLS, NONE = CALLS };
+enum { SHOW, FLAG, NUMBER, STRING, LIST, FLAT, BATCH, REPAIR, SEND, SEND_AT, CALLS, NONE = CALLS };
 
 static uint8_t stack[STACK] __attribute__((aligned(4096)));
 static uint8_t db[1048576], mended[1048576], out[1 << 17], command[16384];
 static size_t db_len, command_len;
 static const char *name = "";
 
-static const char *const calls[CALLS] = {"show", "flag",   "number", "string", "list",
-                                         "flat", "repair", "send",   "send_at"};
+static const char *const calls[CALLS] = {"show", "flag",  "number", "string", "list",
+                                         "flat", "batch", "repair", "send",   "send_at"};
 static const size_t most[CALLS] = {TERMCAP_STACK_SHOW,     TERMCAP_STACK_QUESTION,
                                    TERMCAP_STACK_QUESTION, TERMCAP_STACK_QUESTION,
                                    TERMCAP_STACK_LIST,     TERMCAP_STACK_LIST,
-                                   TERMCAP_STACK_REPAIR,   TERMCAP_STACK_SEND,
-                                   TERMCAP_STACK_SEND};
+                                   TERMCAP_STACK_BATCH,    TERMCAP_STACK_REPAIR,
+                                   TERMCAP_STACK_SEND,     TERMCAP_STACK_SEND};
 static size_t measured[CALLS];
 
 static void *call(void *which)
 {
+    static const uint8_t questions[] = "am\1\0co\2\0cm\3\0xx\1\0tc\1\0am\4";
     const uint8_t *n = (const uint8_t *)name, *id = (const uint8_t *)"cm";
     size_t n_len = strlen(name);
     uint64_t x, y;
@@ -40,6 +41,9 @@ static void *call(void *which)
     case STRING: termcap_string(db, db_len, n, n_len, id, 2, out, sizeof out, &x); break;
     case LIST: termcap_list(db, db_len, n, n_len, out, sizeof out, &x); break;
     case FLAT: termcap_flat(db, db_len, n, n_len, out, sizeof out, &x); break;
+    case BATCH:
+        termcap_batch(db, db_len, n, n_len, questions, sizeof questions, out, sizeof out, &x);
+        break;
     case REPAIR:
         termcap_repair(db, db_len, mended, sizeof mended, out, sizeof out, &x, &y);
         break;

@@ -1,6 +1,7 @@
 //! Times the static library beside plain C and the reference in Rust.
 
 mod agreement;
+mod batches;
 mod contender;
 mod counts;
 mod databases;
@@ -87,12 +88,15 @@ fn measure(targets: &mut Targets) -> agreement::Checked {
     let growth_rows = series.iter().flat_map(|series| series.rows());
     main_rows.chain(growth_rows).chain(&hostile).try_for_each(agreement::check_row)?;
     agreement::check_more(&large, &growing.large[0])?;
+    let to_batch = batches::all(&large);
+    batches::check(&to_batch)?;
     let to_repair = databases::repairs::all();
     repairs::check(&to_repair)?;
 
     main_table::print(&groups, targets);
     growth::print(&series);
     hostile::print(&hostile, targets);
+    batches::print(&to_batch, targets);
     repairs::print(&to_repair, targets);
     let [searching, _, _, sending] = &groups[..] else {
         return Err("the groups of rows are not those that are counted".to_string());

@@ -13,8 +13,9 @@
  *
  * Order of refusals: 1, 2, 3, then the walk (4 to 8), then 9. At each step of the walk: find the line
  * (4 for the first, else 5), then 7, then the 33rd description (8), then 6, then the size (8), then
- * the next link. Repair: 3, 14, 9. Send and Send at: 12 for the inputs, 13, then faults from left to
- * right through the body (10 to 12), then 9.
+ * the next link. A batch: 1, 3, 15, 9; what the walk refuses stands in its answers. Repair: 3, 14, 9.
+ * Send and Send at: 12 for the inputs, 13, then faults from left to right through the body (10 to
+ * 12), then 9.
  *
  * Threads. The library has no state and allocates nothing: a function may be called from any thread,
  * and from several at once, if their buffers are apart.
@@ -65,6 +66,8 @@ extern "C" {
 #define TERMCAP_BAD_PADDING 13u
 /* Over 4,096 lines that aren't ignored are not repaired. */
 #define TERMCAP_TOO_MANY_LINES 14u
+/* A batch's questions are not a multiple of four bytes. */
+#define TERMCAP_PARTIAL_QUESTION 15u
 
 /* Bytes of one record of termcap_list. */
 #define TERMCAP_RECORD_BYTES 8u
@@ -73,6 +76,13 @@ extern "C" {
 #define TERMCAP_LIST_BYTES 43680u
 #define TERMCAP_FLAT_BYTES 16385u
 #define TERMCAP_STRING_BYTES 16384u
+
+/* Bytes of one question and of one answer of termcap_batch, and the first byte of an answer. */
+#define TERMCAP_QUESTION_BYTES 4u
+#define TERMCAP_ANSWER_BYTES 8u
+#define TERMCAP_ANSWER_PRESENT 0u
+#define TERMCAP_ANSWER_ABSENT 1u
+#define TERMCAP_ANSWER_REFUSED 2u
 
 /* Bytes of one record of termcap_repair, and the reasons in it. */
 #define TERMCAP_REPAIR_RECORD_BYTES 16u
@@ -86,15 +96,16 @@ extern "C" {
 #define TERMCAP_REPAIR_RECORDS_BYTES(db_len) (8 * ((size_t)(db_len) + 1))
 
 /* The stack a call needs, in bytes: of termcap_show; of termcap_flag, termcap_number and
- * termcap_string; of termcap_list and termcap_flat; of termcap_repair; of termcap_send and
- * termcap_send_at. */
+ * termcap_string; of termcap_list and termcap_flat; of termcap_batch; of termcap_repair; of
+ * termcap_send and termcap_send_at. */
 #define TERMCAP_STACK_SHOW 5120u
 #define TERMCAP_STACK_QUESTION 7168u
 #define TERMCAP_STACK_LIST 11264u
+#define TERMCAP_STACK_BATCH 69632u
 #define TERMCAP_STACK_REPAIR 155648u
 #define TERMCAP_STACK_SEND 4096u
 
-/* The kinds in a record. */
+/* The kinds in a record and in a question. */
 #define TERMCAP_KIND_FLAG 1u
 #define TERMCAP_KIND_NUMBER 2u
 #define TERMCAP_KIND_STRING 3u
@@ -161,6 +172,23 @@ uint32_t termcap_list(const uint8_t *db, size_t db_len, const uint8_t *name, siz
  */
 uint32_t termcap_flat(const uint8_t *db, size_t db_len, const uint8_t *name, size_t name_len,
                       uint8_t *out, size_t out_len, uint64_t *count);
+
+/*
+ * Batch: any number of questions about one terminal, in one walk. `questions` has TERMCAP_QUESTION_BYTES
+ * for each: the two bytes of the id, the kind, a zero. `out` gets TERMCAP_ANSWER_BYTES for each, in the
+ * same order: TERMCAP_ANSWER_PRESENT, _ABSENT or _REFUSED; the refusal number, 0 unless refused; two
+ * zeros; and a 32-bit value, high byte first (1, the number, or the decoded length), 0 unless present.
+ * An answer says what termcap_flag, termcap_number or termcap_string says to the same question, given
+ * room for the string. This is proved (crates/demands/specs/Batch.antt). A bad id, kind or fourth byte
+ * is refused with 2 in its own answer, before what the walk refuses (4 to 8) in each.
+ *
+ * TERMCAP_OK: *answers is the number of questions, and the first TERMCAP_ANSWER_BYTES * *answers bytes of
+ * `out` are the answers.
+ * Refusals: 1, 3, 15, 9, in this order; an unknown name is none.
+ */
+uint32_t termcap_batch(const uint8_t *db, size_t db_len, const uint8_t *name, size_t name_len,
+                       const uint8_t *questions, size_t questions_len, uint8_t *out, size_t out_len,
+                       uint64_t *answers);
 
 /*
  * Repair: the database as it was edited by hand, mended, and a record for each thing removed: a line

@@ -4,8 +4,9 @@ use std::fmt;
 
 use crate::properties;
 use crate::random::Random;
+use crate::reference::batch::ANSWER_BYTES;
 use crate::reference::repair::REMOVAL_BYTES;
-use crate::reference::Position;
+use crate::reference::{Position, RECORD_BYTES};
 use crate::repair_promises;
 use crate::subject::{Reference, Subject, ABSENT, ACCEPTED};
 
@@ -18,6 +19,7 @@ pub enum Operation {
     String,
     List,
     Flat,
+    Batch,
     Repair,
     Send,
     SendAt,
@@ -28,13 +30,14 @@ pub enum Operation {
 }
 
 impl Operation {
-    pub const ALL: [Operation; 11] = [
+    pub const ALL: [Operation; 12] = [
         Operation::Show,
         Operation::Flag,
         Operation::Number,
         Operation::String,
         Operation::List,
         Operation::Flat,
+        Operation::Batch,
         Operation::Repair,
         Operation::Send,
         Operation::SendAt,
@@ -67,6 +70,7 @@ impl Operation {
             Show => &["start", "length"],
             Flag | Number => &["value"],
             List => &["records"],
+            Batch => &["answers"],
             Repair => &["count", "removed"],
             _ => &["count"],
         }
@@ -80,6 +84,8 @@ pub struct Case {
     pub database: Vec<u8>,
     pub name: Vec<u8>,
     pub id: Vec<u8>,
+    /// The questions of a batch, four bytes each.
+    pub questions: Vec<u8>,
     pub command: Vec<u8>,
     pub row: u64,
     pub column: u64,
@@ -153,6 +159,7 @@ pub fn observe(case: &Case, subject: &impl Subject) -> Observed {
         Operation::String => subject.string(database, name, id, out, first),
         Operation::List => subject.list(database, name, out, first),
         Operation::Flat | Operation::Properties => subject.flat(database, name, out, first),
+        Operation::Batch => subject.batch(database, name, &case.questions, out, first),
         Operation::Repair | Operation::RepairPromises => {
             subject.repair(database, out, records, first, second)
         }
@@ -214,7 +221,11 @@ pub fn describe(case: &Case, observed: &Observed) -> String {
         }
     }
     if observed.code == ACCEPTED && case.operation.takes_room() {
-        let each = if case.operation == Operation::List { 8 } else { 1 };
+        let each = match case.operation {
+            Operation::List => RECORD_BYTES as u64,
+            Operation::Batch => ANSWER_BYTES as u64,
+            _ => 1,
+        };
         let bytes = observed.reported(observed.numbers[0].saturating_mul(each));
         text += &format!(", bytes {}", Bytes(&bytes[..bytes.len().min(MOST_SHOWN)]));
         if bytes.len() > MOST_SHOWN {
@@ -323,6 +334,9 @@ impl fmt::Display for Case {
             }
             if self.operation.takes_id() {
                 writeln!(formatter, "    id: {},", Bytes(&self.id))?;
+            }
+            if self.operation == Operation::Batch {
+                writeln!(formatter, "    questions: {},", Bytes(&self.questions))?;
             }
         }
         if self.operation.takes_room() {

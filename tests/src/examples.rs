@@ -25,10 +25,12 @@ pub enum Expected {
     Bytes(Vec<u8>),
     /// The bytes written, and a count of one for every eight.
     Records(Vec<u8>),
+    /// Status, refusal number and value of each answer of a batch.
+    Answers(Vec<(u8, u8, u32)>),
     /// The mended database, and line, place, reason and count of each removal.
     Mended(Vec<u8>, Vec<[u32; 4]>),
 }
-use Expected::{Absent, Bytes, Mended, Records, Refused, Shown, Value};
+use Expected::{Absent, Answers, Bytes, Mended, Records, Refused, Shown, Value};
 
 /// What is wrong with the subject's answer, in words; nothing if it is the one written here.
 pub fn wrong(example: &Example, subject: &impl Subject) -> Option<String> {
@@ -39,12 +41,17 @@ pub fn wrong(example: &Example, subject: &impl Subject) -> Option<String> {
         Absent => ABSENT,
         _ => ACCEPTED,
     };
+    let answers: Vec<u8> = match &example.expected {
+        Answers(answers) => answers.iter().flat_map(answer_bytes).collect(),
+        _ => Vec::new(),
+    };
     let (numbers, bytes): (&[u64], &[u8]) = match &example.expected {
         Refused(_) | Absent => (&[], b""),
         Shown { start, length } => (&[*start, *length], b""),
         Value(value) => (&[*value], b""),
         Bytes(bytes) => (&[bytes.len() as u64], bytes),
         Records(bytes) => (&[bytes.len() as u64 / 8], bytes),
+        Answers(each) => (&[each.len() as u64], &answers),
         Mended(text, removals) => (&[text.len() as u64, removals.len() as u64], text),
     };
     if let Mended(_, removals) = &example.expected {
@@ -58,6 +65,11 @@ pub fn wrong(example: &Example, subject: &impl Subject) -> Option<String> {
     (seen != right).then(|| {
         format!("expected: {}\nseen:     {}\n", describe(case, &right), describe(case, &seen))
     })
+}
+
+/// "Status, refusal number, two zeros, and the value."
+fn answer_bytes(&(status, refusal, value): &(u8, u8, u32)) -> Vec<u8> {
+    [&[status, refusal, 0, 0][..], &value.to_be_bytes()].concat()
 }
 
 pub fn all() -> Vec<Example> {
@@ -82,6 +94,9 @@ pub fn all() -> Vec<Example> {
         repairs(),
         repairs_of_links(),
         repairs_refused(),
+        batches(),
+        batches_with_bad_questions(),
+        batches_refused(),
     ];
     parts.into_iter().flatten().collect()
 }
@@ -121,6 +136,14 @@ fn list(database: &[u8], name: &[u8]) -> Case {
 fn flat(database: &[u8], name: &[u8]) -> Case {
     Case { room: 17_000, ..ask(Operation::Flat, database, name) }
 }
+
+fn batch(database: &[u8], name: &[u8], questions: &[u8]) -> Case {
+    Case { questions: questions.to_vec(), room: 60, ..ask(Operation::Batch, database, name) }
+}
+
+const PRESENT: fn(u32) -> (u8, u8, u32) = |value| (0, 0, value);
+const NONE: (u8, u8, u32) = (1, 0, 0);
+const NO: fn(u8) -> (u8, u8, u32) = |refusal| (2, refusal, 0);
 
 fn repair(database: &[u8]) -> Case {
     Case { room: 60, records_room: 80, ..ask(Operation::Repair, database, b"") }
@@ -885,6 +908,115 @@ fn repairs_refused() -> Vec<Example> {
             "no room is needed for no records",
             Case { room: 5, records_room: 0, ..repair(b"n:am:") },
             mended(b"n:am:", &[]),
+        ),
+    ]
+}
+
+// ---------------------------------------------------------------------------------------------
+// Document 02, Ask 3: an answer is status, refusal number and value
+// ---------------------------------------------------------------------------------------------
+
+fn batches() -> Vec<Example> {
+    let screen = b"n:am:co#80:cl=\\E[H:li@:tc=m:\nm:li#24:bs:le=^@:\n";
+    let longest = [b"n:cl=", &vec![b'x'; 16_376][..], b":\n"].concat();
+    vec![
+        example(
+            "a batch with each kind, a cancel and a link",
+            batch(screen, b"n", b"am\x01\0co\x02\0cl\x03\0li\x02\0bs\x01\0le\x03\0"),
+            Answers(vec![PRESENT(1), PRESENT(80), PRESENT(3), NONE, PRESENT(1), PRESENT(1)]),
+        ),
+        example(
+            "another kind is passed over, and a question may be put twice",
+            batch(screen, b"n", b"am\x02\0am\x01\0am\x01\0co\x03\0"),
+            Answers(vec![NONE, PRESENT(1), PRESENT(1), NONE]),
+        ),
+        example(
+            "a cancel between fields of one name",
+            batch(b"n:am:am@:am#5:am=x:", b"n", b"am\x01\0am\x02\0am\x03\0"),
+            Answers(vec![PRESENT(1), NONE, NONE]),
+        ),
+        example(
+            "the first field of a name and kind",
+            batch(b"n:co#1:co#2:co=ab:co=c:", b"n", b"co\x02\0co\x03\0"),
+            Answers(vec![PRESENT(1), PRESENT(2)]),
+        ),
+        example(
+            "the largest number and an empty string",
+            batch(b"n:li#65535:cl=:", b"n", b"li\x02\0cl\x03\0"),
+            Answers(vec![PRESENT(65_535), PRESENT(0)]),
+        ),
+        example(
+            "a string longer than the buffer",
+            batch(&longest, b"n", b"cl\x03\0"),
+            Answers(vec![PRESENT(16_376)]),
+        ),
+        example(
+            "ids with the lowest and the highest bytes",
+            batch(b"n:!!#3:~~:!~=x:", b"n", b"!!\x02\0~~\x01\0!~\x03\0~!\x01\0"),
+            Answers(vec![PRESENT(3), PRESENT(1), PRESENT(1), NONE]),
+        ),
+        example("no question", batch(screen, b"n", b""), Answers(vec![])),
+        example("no question of an unknown name", batch(screen, b"q", b""), Answers(vec![])),
+    ]
+}
+
+fn batches_with_bad_questions() -> Vec<Example> {
+    vec![
+        example(
+            "a bad id is 2 in its own answer",
+            batch(b"n:am:", b"n", b"tc\x01\0.x\x01\0a:\x01\0\\a\x01\0a \x01\0am\x01\0"),
+            Answers(vec![NO(2), NO(2), NO(2), NO(2), NO(2), PRESENT(1)]),
+        ),
+        example(
+            "a bad kind or fourth byte is 2 in its own answer",
+            batch(b"n:am:", b"n", b"am\0\0am\x04\0am\xff\0am\x01\x01am\x011am\x01\0"),
+            Answers(vec![NO(2), NO(2), NO(2), NO(2), NO(2), PRESENT(1)]),
+        ),
+        example(
+            "what the walk refuses is in each answer, after 2",
+            batch(b"n:am:tc=q:", b"n", b"am\x01\0am\x09\0co\x02\0tc\x03\0am\x01\x02"),
+            Answers(vec![NO(5), NO(2), NO(5), NO(2), NO(2)]),
+        ),
+        example(
+            "a batch of an unknown name",
+            batch(b"n:am:", b"q", b"am\x01\0"),
+            Answers(vec![NO(4)]),
+        ),
+        example("a malformed batch", batch(b"n:a:", b"n", b"am\x01\0"), Answers(vec![NO(6)])),
+        example("a cyclic batch", batch(b"n:tc=n:", b"n", b"am\x01\0"), Answers(vec![NO(7)])),
+        example(
+            "a batch of too large a chain",
+            batch(&[b"n:cl=", &vec![b'x'; 16_379][..], b":\n"].concat(), b"n", b"am\x01\0"),
+            Answers(vec![NO(8)]),
+        ),
+    ]
+}
+
+fn batches_refused() -> Vec<Example> {
+    let large = vec![b'#'; 1_048_577];
+    let roomless = |case: Case| Case { room: 0, ..case };
+    vec![
+        example("a batch with a bad name", batch(b"n:am:", b"a|b", b"am\x01\0"), Refused(1)),
+        example("1 before 3 and 15", roomless(batch(&large, b"", b"a")), Refused(1)),
+        example("3 before 15", roomless(batch(&large, b"n", b"a")), Refused(3)),
+        example("3 with no question", batch(&large, b"n", b""), Refused(3)),
+        example("15 before 9", roomless(batch(b"n:am:", b"n", b"am\x01\0a")), Refused(15)),
+        example("15 for less than one question", batch(b"n:am:", b"n", b"am\x01"), Refused(15)),
+        example("15 before what the walk refuses", batch(b"", b"n", b"am\x01\0am"), Refused(15)),
+        example(
+            "no room for an absent answer",
+            Case { room: 7, ..batch(b"n:am@:", b"n", b"am\x01\0") },
+            Refused(9),
+        ),
+        example(
+            "no room for the last answer",
+            Case { room: 15, ..batch(b"", b"n", b"am\x01\0tc\x01\0") },
+            Refused(9),
+        ),
+        example(
+            "just room for two answers",
+            Case { room: 16, ..batch(b"", b"n", b"am\x01\0tc\x01\0") },
+            Answers(vec![NO(4), NO(2)]),
         ),
     ]
 }

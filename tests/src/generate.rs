@@ -6,6 +6,7 @@
 
 use crate::case::{Case, Operation};
 use crate::random::Random;
+use crate::reference::batch::{ANSWER_BYTES, QUESTION_BYTES};
 use crate::reference::{self, Position};
 
 mod commands;
@@ -17,7 +18,7 @@ pub use databases::many_flags;
 /// Case number `index` of the run with this seed.
 pub fn case(seed: u64, index: u64) -> Case {
     let mut random = Random::for_case(seed, index);
-    let operation = Operation::ALL[random.weighted(&[7, 9, 9, 14, 11, 11, 9, 9, 14, 5, 4])];
+    let operation = Operation::ALL[random.weighted(&[7, 9, 9, 14, 11, 11, 9, 9, 9, 14, 5, 4])];
     fill_in(&mut random, operation)
 }
 
@@ -87,6 +88,7 @@ fn needed(case: &Case) -> Option<u64> {
         }
         Operation::List => Some(reference::list_bytes(database, name).ok()?.len() as u64),
         Operation::Flat => Some(reference::flat_bytes(database, name).ok()?.len() as u64),
+        Operation::Batch => Some((case.questions.len() / QUESTION_BYTES * ANSWER_BYTES) as u64),
         Operation::Send => {
             reference::send_parts(&case.command, case.lines, case.speed).ok().map(with_pads)
         }

@@ -61,6 +61,17 @@ extern "C" {
         out_len: usize,
         count: *mut u64,
     ) -> u32;
+    fn termcap_batch(
+        db: *const u8,
+        db_len: usize,
+        name: *const u8,
+        name_len: usize,
+        questions: *const u8,
+        questions_len: usize,
+        out: *mut u8,
+        out_len: usize,
+        answers: *mut u64,
+    ) -> u32;
     fn termcap_repair(
         db: *const u8,
         db_len: usize,
@@ -201,6 +212,29 @@ impl Subject for Library {
                 out.as_mut_ptr(),
                 out.len(),
                 count,
+            )
+        }
+    }
+
+    fn batch(
+        &self,
+        database: &[u8],
+        name: &[u8],
+        questions: &[u8],
+        out: &mut [u8],
+        answers: &mut u64,
+    ) -> u32 {
+        unsafe {
+            termcap_batch(
+                pointer(database),
+                database.len(),
+                pointer(name),
+                name.len(),
+                pointer(questions),
+                questions.len(),
+                out.as_mut_ptr(),
+                out.len(),
+                answers,
             )
         }
     }

@@ -8,7 +8,7 @@ use crate::generate;
 use crate::subject::{Reference, ABSENT, ACCEPTED};
 
 /// The results a reader wants to see, in this order: accepted, absent, the refusals.
-const CODES: [u32; 16] = [ACCEPTED, ABSENT, 1, 2, 3, 4, 5, 6, 7, 8, 9, 10, 11, 12, 13, 14];
+const CODES: [u32; 17] = [ACCEPTED, ABSENT, 1, 2, 3, 4, 5, 6, 7, 8, 9, 10, 11, 12, 13, 14, 15];
 
 pub struct Mix {
     counts: BTreeMap<(usize, u32), u64>,
@@ -86,6 +86,7 @@ mod tests {
             Operation::Flag | Operation::Number => &[ACCEPTED, ABSENT, 1, 2, 3, 4, 5, 6, 7, 8],
             Operation::String => &[ACCEPTED, ABSENT, 1, 2, 3, 4, 5, 6, 7, 8, 9],
             Operation::List | Operation::Flat => &[ACCEPTED, 1, 3, 4, 5, 6, 7, 8, 9],
+            Operation::Batch => &[ACCEPTED, 1, 3, 9, 15],
             Operation::Repair => &[ACCEPTED, 3, 9, 14],
             Operation::Send => &[ACCEPTED, 9, 12, 13],
             Operation::SendAt => &[ACCEPTED, 9, 10, 11, 12, 13],

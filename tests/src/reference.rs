@@ -5,6 +5,7 @@
 //! quotation marks are its own, and "our reading" marks where it can be read in two ways or is
 //! silent. Every operation gives `Err` with the refusal number, or `Ok`; `Ok(None)` is "absent".
 
+pub mod batch;
 pub mod repair;
 
 pub type Refusal = u8;

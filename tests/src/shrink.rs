@@ -4,11 +4,12 @@ use std::time::{Duration, Instant};
 
 use crate::case::Case;
 
-const BYTES: [fn(&mut Case) -> &mut Vec<u8>; 6] = [
+const BYTES: [fn(&mut Case) -> &mut Vec<u8>; 7] = [
     |case| &mut case.database,
     |case| &mut case.command,
     |case| &mut case.name,
     |case| &mut case.id,
+    |case| &mut case.questions,
     |case| &mut case.back,
     |case| &mut case.up,
 ];

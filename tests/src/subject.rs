@@ -22,6 +22,14 @@ pub trait Subject {
     ) -> u32;
     fn list(&self, database: &[u8], name: &[u8], out: &mut [u8], records: &mut u64) -> u32;
     fn flat(&self, database: &[u8], name: &[u8], out: &mut [u8], count: &mut u64) -> u32;
+    fn batch(
+        &self,
+        database: &[u8],
+        name: &[u8],
+        questions: &[u8],
+        out: &mut [u8],
+        answers: &mut u64,
+    ) -> u32;
     fn repair(
         &self,
         database: &[u8],
@@ -116,6 +124,17 @@ impl Subject for Reference {
 
     fn flat(&self, database: &[u8], name: &[u8], out: &mut [u8], count: &mut u64) -> u32 {
         accepted(reference::flat(database, name, out), count)
+    }
+
+    fn batch(
+        &self,
+        database: &[u8],
+        name: &[u8],
+        questions: &[u8],
+        out: &mut [u8],
+        answers: &mut u64,
+    ) -> u32 {
+        accepted(reference::batch::batch(database, name, questions, out), answers)
     }
 
     fn repair(

@@ -53,6 +53,18 @@ impl<F: Fn(Answer) -> u32> Subject for Twisted<F> {
         (self.0)(Answer { operation: Operation::Flat, code, number: count, out })
     }
 
+    fn batch(
+        &self,
+        database: &[u8],
+        name: &[u8],
+        questions: &[u8],
+        out: &mut [u8],
+        answers: &mut u64,
+    ) -> u32 {
+        let code = Reference.batch(database, name, questions, out, answers);
+        (self.0)(Answer { operation: Operation::Batch, code, number: answers, out })
+    }
+
     fn repair(
         &self,
         database: &[u8],

@@ -40,18 +40,21 @@
 //! | [`Database::show`] | 5,120 |
 //! | [`Database::flag`], [`Database::number`], [`Database::string`] | 7,168 |
 //! | [`Database::list`], [`Database::flat`] | 11,264 |
+//! | [`Database::batch`] | 69,632 |
 //! | [`Database::repair`] | 155,648 |
 //! | [`send`], [`send_at`] | 4,096 |
 
 #![deny(missing_docs)]
 #![deny(unsafe_code)]
 
+mod question;
 mod record;
 mod refusal;
 mod removal;
 #[allow(unsafe_code)]
 mod sys;
 
+pub use question::{Answered, Question};
 pub use record::{Kind, Record};
 pub use refusal::{NotARefusal, Refusal};
 pub use removal::{Reason, Removal, Repair};
@@ -265,6 +268,70 @@ impl<'a> Database<'a> {
         let result = sys::flat(self.bytes, name.as_ref(), out, &mut count);
         accepted(result, ())?;
         Ok(size(count))
+    }
+}
+
+/// A screenful of questions at once.
+impl Database<'_> {
+    /// The answers to any number of questions about one terminal, in the order of the questions.
+    /// The database is searched once for all of them. Each answer is the one that
+    /// [`flag`](Database::flag), [`number`](Database::number) or [`string`](Database::string) gives
+    /// to the same question, with a string's length for its bytes; this is proved
+    /// (`crates/demands/specs/Batch.antt`). So an unknown name, or a damaged description, is refused
+    /// in each answer; the whole call is refused with [`Refusal::BadName`] and
+    /// [`Refusal::DatabaseTooLarge`] alone.
+    ///
+    /// ```
+    /// # use termcap_proved::{Answered, Database, Question, Refusal};
+    /// let database = Database::new(br"kiln:am@:co#20:tc=oven:
+    /// oven:am:cl=\E[H\E[J:");
+    /// let screen =
+    ///     [Question::flag(*b"am"), Question::number(*b"co"), Question::string(*b"cl")];
+    /// assert_eq!(
+    ///     database.batch("kiln", &screen),
+    ///     Ok(vec![Answered::Absent, Answered::Present(20), Answered::Present(6)])
+    /// );
+    /// let unknown = Answered::Refused(Refusal::UnknownName);
+    /// assert_eq!(database.batch("press", &screen[..1]), Ok(vec![unknown]));
+    /// ```
+    pub fn batch(
+        &self,
+        name: impl AsRef<[u8]>,
+        questions: &[Question],
+    ) -> Result<Vec<Answered>, Refusal> {
+        let asked: Vec<u8> = questions.iter().flat_map(|question| question.to_bytes()).collect();
+        let mut out = vec![0; questions.len() * Answered::BYTES];
+        let answers = self.batch_into(name, &asked, &mut out)?;
+        let read = |bytes: &[u8]| {
+            let bytes = bytes.try_into().expect("a chunk is one answer");
+            Answered::from_bytes(bytes).expect("the library writes statuses 0, 1 and 2")
+        };
+        Ok(out.chunks_exact(Answered::BYTES).take(answers).map(read).collect())
+    }
+
+    /// Takes the questions as bytes, [`Question::BYTES`] each, writes the answers to the start of
+    /// `out`, [`Answered::BYTES`] each, and gives their number. [`Question::to_bytes`] makes the
+    /// ones and [`Answered::from_bytes`] reads the others. A question whose id, kind or fourth byte
+    /// is bad is refused with [`Refusal::BadId`] in its own answer.
+    ///
+    /// ```
+    /// # use termcap_proved::{Database, Refusal};
+    /// let database = Database::new(b"oven:co#300:\n");
+    /// let mut out = [9; 17];
+    /// assert_eq!(database.batch_into("oven", b"co\x02\0co\x04\0", &mut out), Ok(2));
+    /// assert_eq!(out, [0, 0, 0, 0, 0, 0, 1, 44, 2, 2, 0, 0, 0, 0, 0, 0, 9]);
+    /// assert_eq!(database.batch_into("oven", b"co\x02", &mut out), Err(Refusal::PartialQuestion));
+    /// ```
+    pub fn batch_into(
+        &self,
+        name: impl AsRef<[u8]>,
+        questions: &[u8],
+        out: &mut [u8],
+    ) -> Result<usize, Refusal> {
+        let mut answers = 0;
+        let result = sys::batch(self.bytes, name.as_ref(), questions, out, &mut answers);
+        accepted(result, ())?;
+        Ok(size(answers))
     }
 }
 

@@ -35,10 +35,12 @@ pub enum Refusal {
     BadPadding = 13,
     /// Over 4,096 lines that aren't ignored are not repaired.
     TooManyLines = 14,
+    /// A batch's questions are not a multiple of four bytes.
+    PartialQuestion = 15,
 }
 
 impl Refusal {
-    const ALL: [Refusal; 14] = [
+    const ALL: [Refusal; 15] = [
         Refusal::BadName,
         Refusal::BadId,
         Refusal::DatabaseTooLarge,
@@ -53,9 +55,10 @@ impl Refusal {
         Refusal::OutOfRange,
         Refusal::BadPadding,
         Refusal::TooManyLines,
+        Refusal::PartialQuestion,
     ];
 
-    /// The refusal number, 1 to 14.
+    /// The refusal number, 1 to 15.
     pub fn number(self) -> u32 {
         self as u32
     }
@@ -84,6 +87,7 @@ impl fmt::Display for Refusal {
             Refusal::OutOfRange => "a number is out of its range",
             Refusal::BadPadding => "the command's padding has too many digits",
             Refusal::TooManyLines => "the database has more than 4,096 descriptions to repair",
+            Refusal::PartialQuestion => "the last question of the batch is cut off",
         })
     }
 }

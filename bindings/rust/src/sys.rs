@@ -59,6 +59,17 @@ mod c {
             out_len: usize,
             count: *mut u64,
         ) -> u32;
+        pub fn termcap_batch(
+            db: *const u8,
+            db_len: usize,
+            name: *const u8,
+            name_len: usize,
+            questions: *const u8,
+            questions_len: usize,
+            out: *mut u8,
+            out_len: usize,
+            answers: *mut u64,
+        ) -> u32;
         pub fn termcap_repair(
             db: *const u8,
             db_len: usize,
@@ -181,6 +192,23 @@ pub fn flat(db: &[u8], name: &[u8], out: &mut [u8], count: &mut u64) -> u32 {
             out.as_mut_ptr(),
             out.len(),
             count,
+        )
+    }
+}
+
+pub fn batch(db: &[u8], name: &[u8], questions: &[u8], out: &mut [u8], answers: &mut u64) -> u32 {
+    // SAFETY: see above.
+    unsafe {
+        c::termcap_batch(
+            db.as_ptr(),
+            db.len(),
+            name.as_ptr(),
+            name.len(),
+            questions.as_ptr(),
+            questions.len(),
+            out.as_mut_ptr(),
+            out.len(),
+            answers,
         )
     }
 }

@@ -1,8 +1,8 @@
 //! Calls with answers worked out by hand.
 
 use termcap_proved::{
-    send, send_at, send_at_into, send_into, Database, Kind, Line, NotARefusal, Position, Record,
-    Refusal, FLAT_BYTES, RECORDS,
+    send, send_at, send_at_into, send_into, Answered, Database, Kind, Line, NotARefusal, Position,
+    Question, Record, Refusal, FLAT_BYTES, RECORDS,
 };
 
 const CASE: &[u8] = br"N9|aaa:am:li#30:tc=aaa-unk:
@@ -307,28 +307,70 @@ fn padding_of_motions_is_taken_off_first() {
 
 #[test]
 fn a_refusal_is_told_in_a_sentence_of_its_own() {
-    let texts = (1..=14).map(|number| Refusal::try_from(number).unwrap().to_string());
+    let texts = (1..=15).map(|number| Refusal::try_from(number).unwrap().to_string());
     let mut texts: Vec<String> = texts.collect();
     assert_eq!(texts[3], "no terminal in the database has this name");
     assert_eq!(texts[8], "the output does not fit the buffer");
     texts.sort();
     texts.dedup();
-    assert_eq!(texts.len(), 14);
+    assert_eq!(texts.len(), 15);
+}
+
+#[test]
+fn the_whole_case_is_asked_in_one_batch() {
+    let database = Database::new(CASE);
+    let questions = [
+        Question::flag(*b"am"),
+        Question::number(*b"li"),
+        Question::number(*b"co"),
+        Question::string(*b"cl"),
+        Question::string(*b"co"),
+        Question::flag(*b"tc"),
+    ];
+    let [one, two, three] = [30, 80, 3].map(Answered::Present);
+    let bad = Answered::Refused(Refusal::BadId);
+    let answers = vec![Answered::Absent, one, two, three, Answered::Absent, bad];
+    assert_eq!(database.batch("aaa-nam", &questions), Ok(answers));
+    assert_eq!(database.batch("aaa-nam", &[]), Ok(vec![]));
+    assert_eq!(database.batch("a:b", &questions), Err(Refusal::BadName));
+    let lost = Answered::Refused(Refusal::LostLink);
+    assert_eq!(Database::new(b"n:tc=m:").batch("n", &questions[..1]), Ok(vec![lost]));
+}
+
+#[test]
+fn a_batch_writes_what_it_reports_and_no_more() {
+    let database = Database::new(CASE);
+    let asked = [Question::flag(*b"am").to_bytes(), Question::number(*b"li").to_bytes()].concat();
+    assert_eq!(asked, [97, 109, 1, 0, 108, 105, 2, 0]);
+    let mut out = [MARK; 17];
+    assert_eq!(database.batch_into("aaa-nam", &asked, &mut out[..15]), Err(Refusal::NoRoom));
+    assert_eq!(
+        database.batch_into("aaa-nam", &asked[..7], &mut out),
+        Err(Refusal::PartialQuestion)
+    );
+    assert_eq!(out, [MARK; 17]);
+    assert_eq!(database.batch_into("aaa-nam", &asked, &mut out), Ok(2));
+    assert_eq!(out, [1, 0, 0, 0, 0, 0, 0, 0, 0, 0, 0, 0, 0, 0, 0, 30, MARK]);
+    assert_eq!(Answered::from_bytes([1, 0, 0, 0, 0, 0, 0, 0]), Some(Answered::Absent));
+    assert_eq!(Answered::from_bytes([1, 0, 0, 0, 0, 0, 0, 1]), None);
+    assert_eq!(Answered::from_bytes([2, 16, 0, 0, 0, 0, 0, 0]), None);
+    assert_eq!(Answered::Present(30).value(), Ok(Some(30)));
 }
 
 #[test]
 fn refusals_and_kinds_have_their_numbers() {
-    for number in 1..=14 {
+    for number in 1..=15 {
         let refusal = Refusal::try_from(number).unwrap();
         assert_eq!(refusal.number(), number);
     }
-    for number in [0, 15, 255, u32::MAX] {
+    for number in [0, 16, 255, u32::MAX] {
         assert_eq!(Refusal::try_from(number), Err(NotARefusal(number)));
     }
     assert_eq!(Refusal::BadName.number(), 1);
     assert_eq!(Refusal::BadPadding.number(), 13);
     assert_eq!(Refusal::TooManyLines.number(), 14);
-    assert_eq!(NotARefusal(15).to_string(), "15 is no refusal number");
+    assert_eq!(Refusal::PartialQuestion.number(), 15);
+    assert_eq!(NotARefusal(16).to_string(), "16 is no refusal number");
 
     assert_eq!(Kind::from_number(3), Some(Kind::String));
     assert_eq!(Kind::from_number(4), None);

@@ -11,3 +11,4 @@ pub mod RepairSound
 pub mod SoundUnchanged
 pub mod RepairPromises
 pub mod RepairRoom
+pub mod Batch

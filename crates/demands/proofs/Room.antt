@@ -38,24 +38,8 @@ use Rattle.spec.specs.Fields.{
   linkTo,
   verdict,
 }
-use Rattle.spec.specs.Chain.{
-  Chain,
-  broken,
-  chain,
-  visited,
-  linkTarget,
-  entered,
-  follow,
-  walk,
-  Field,
-  texts,
-  Terminal,
-  refused,
-  terminal,
-  described,
-  resolve,
-}
-use Rattle.spec.specs.Lookup.{Hit, none, hit, matches, lookup, winning, bytesOf}
+use Rattle.spec.specs.Chain.{Chain, broken, chain, visited, linkTarget, entered, follow, walk, Field, Terminal, refused, terminal, described, resolve}
+use Rattle.spec.specs.Lookup.{Hit, none, hit, lookup, winning, bytesOf}
 use Rattle.spec.specs.Padding.{Prefix, Split, split, prefixOf, delayFor, padCount}
 use Rattle.spec.specs.Answers.{Outcome, keeping, put}
 use Rattle.spec.specs.Questions.{terminalOf, terminalFor, presented, decodedOutcome, stringFor, stringOutcome}
@@ -68,6 +52,7 @@ use Rattle.spec.specs.declared.Answer.{Answer}
 use Rattle.spec.specs.declared.Answer.the-variants.{Present, Absent, Refused as NotAnswered}
 use Rattle.spec.specs.declared.Written.{Written}
 use Rattle.spec.specs.declared.Written.the-variants.{Count, Refused}
+use Rattle.spec.proofs.LookupSteps.{hit-size}
 use Rattle.spec.proofs.Tests.{pick-all}
 use Rattle.spec.proofs.Readings.{decode-short}
 use Rattle.spec.proofs.FlatAlone.{sound}
@@ -223,17 +208,6 @@ bytes-short t = go (reading t) refl
     go (capability a b flag) e = omega arith
     go (capability a b (number v)) e = omega arith
     go (capability a b (string l)) e = reading-fits t a b l e
-
-hit-size : (id : List ℕ) (k : ℕ) (fs : List Field) (t : List ℕ) → lookup id k fs ≡ hit t → length t ≤ size (texts fs)
-unfolding lookup texts size
-hit-size id k [] t e = let z : _≡_ {A = ℕ} 0 1 = cc in absurd (omega arith)
-hit-size id k (f ∷ fs) t e = go (matches id 0 (reading (f .text))) (matches id k (reading (f .text))) e (hit-size id k fs t)
-  where
-    go : (c h : Bool) → pick c none (pick h (hit (f .text)) (lookup id k fs)) ≡ hit t → (lookup id k fs ≡ hit t → length t ≤ size (texts fs))
-        → length t ≤ length (f .text) + 1 + size (texts fs)
-    go true h q ih = let z : _≡_ {A = ℕ} 0 1 = cc in absurd (omega arith)
-    go false true q ih = let same : f .text ≡ t = cc in omega (arith, ap length same)
-    go false false q ih = omega (arith, ih q)
 
 -- a question's terminal that is not refused is that of the name
 asked-accepted : (db name id names : List ℕ) (fs : List Field) → terminalFor db name id ≡ terminal names fs → terminalOf db name ≡ terminal names fs

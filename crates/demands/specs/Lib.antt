@@ -7,3 +7,4 @@ pub mod Limits
 pub mod Room
 pub mod RepairPromises
 pub mod RepairRoom
+pub mod Batch

@@ -44,6 +44,7 @@ use Rattle.spec.specs.Questions.{
   showAnswer,
 }
 use Rattle.spec.specs.Listing.{recordOf, records, listFor, listOutcome, flatText, flatFor, flatOutcome}
+use Rattle.spec.specs.Batch.{batchAnswer, batchAnswers, batchOutcome}
 use Rattle.spec.specs.Repair.{
   linesOf,
   ownBytes,
@@ -89,14 +90,13 @@ use Rattle.spec.specs.Sending.{prepared, preparedAt, padsOf, outgoing, o
 
 unfoldable pub computing : Unit {0}
 unfolding holds upto past laterPieces same among valueFrom areDigits leading trailing spell places written nameByte nameBytes goodName idByte isTc idBytes
-    goodId tooLarge join textAt lineText laterLines blank comment firstName laterNames find findLine lineAt lineEnd extent emit escaped control decode namesOf
-    grow split fieldsOf withColons size lineSize numberBase numberValue goodNumber stringReading contentReading linkReading namedReading reading
-    isIgnoredField allIgnored judged judge verdict visited linkTarget entered follow walk placed texts joinedFields described resolve matches lookup
-    canWin hides hidden winningAfter winning valueOf bytesOf put terminalOf terminalFor hitAnswer answerFor flagAnswer numberAnswer decodedOutcome
-    stringFor stringOutcome shown showAnswer recordOf records listFor listOutcome flatText flatFor flatOutcome linesOf ownBytes isDropped left pieces
-    fieldReason isLink firstLink linkOf fieldPieces lineLink withLink linksAmong leads comesBack linkReason removedLinks reasonAt linkRemovals partsFrom
-    partsOf keptBytes allKept endsInBackslash closed mendedLine partRecords mendLine mendLines mended descriptions tooManyLines flattened putMended
-    repairOutcome raisedFrom raised changed readByte perform
-    repeated compensations fillIn plainOf tenths prefixOf padCount prepared preparedAt padsOf outgoing outgoingAt delivered sendOutcome
-    sendAtOutcome
+    goodId tooLarge join textAt lineText laterLines blank comment firstName laterNames find findLine lineAt lineEnd extent emit escaped control decode
+    namesOf grow split fieldsOf withColons size lineSize numberBase numberValue goodNumber stringReading contentReading linkReading namedReading reading
+    isIgnoredField allIgnored judged judge verdict visited linkTarget entered follow walk placed texts joinedFields described resolve matches lookup canWin
+    hides hidden winningAfter winning valueOf bytesOf put terminalOf terminalFor hitAnswer answerFor flagAnswer numberAnswer decodedOutcome stringFor
+    stringOutcome shown showAnswer recordOf records listFor listOutcome flatText flatFor flatOutcome batchAnswer batchAnswers batchOutcome linesOf ownBytes
+    isDropped left pieces fieldReason isLink firstLink linkOf fieldPieces lineLink withLink linksAmong leads comesBack linkReason removedLinks reasonAt
+    linkRemovals partsFrom partsOf keptBytes allKept endsInBackslash closed mendedLine partRecords mendLine mendLines mended descriptions tooManyLines
+    flattened putMended repairOutcome raisedFrom raised changed readByte perform repeated compensations fillIn plainOf tenths prefixOf padCount prepared
+    preparedAt padsOf outgoing outgoingAt delivered sendOutcome sendAtOutcome
 computing = tt

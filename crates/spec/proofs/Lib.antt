@@ -17,6 +17,7 @@ pub mod AcceptedChain
 pub mod WalkSteps
 pub mod Removal
 pub mod Winning
+pub mod LookupSteps
 pub mod Buffers
 pub mod Records
 pub mod FlatAlone

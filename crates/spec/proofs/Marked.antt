@@ -11,4 +11,4 @@ marked-examples = refl
 
 pub rulings : Ruled
 unfolding computing
-rulings = (refl, refl, refl, refl, refl)
+rulings = (refl, refl, refl, refl, refl, refl)

@@ -1,7 +1,7 @@
--- What is known of a field that is read as an entry: its first two bytes are its name, which is an id, and its value is not much longer
--- than it.
+-- What is known of a field that is read as an entry: its first two bytes are its name, which is an id, and its value is at most 65,535 or
+-- the field's length.
 -- Assumes nothing.
-use Prim.Native.Nat.{ℕ, suc, _+_, _-_, _*_, _≤_}
+use Prim.Native.Nat.{ℕ, suc, _+_, _-_, _*_, _≤_, max}
 use mathlib.Core.Path.{_≡_, refl}
 use mathlib.Core.Bool.{Bool, true, false, not}
 use mathlib.Core.List.{List, [], _∷_}
@@ -85,10 +85,10 @@ decode-short (twoDigits v) (b ∷ l) d e =
 pub record Entered (t : List ℕ) (a b : ℕ) (s : Content) : Type 0 where
   pub start : (l : List ℕ) × (t ≡ a ∷ b ∷ l)
   pub id : idBytes a b ≡ true
-  pub bound : contentValue s ≤ 65535 + length t
+  pub bound : contentValue s ≤ max 65535 (length t)
 
 abbrev Valued : ℕ → ℕ → ℕ → Reading → Type 0
-Valued a b n r = (c d : ℕ) (s : Content) → r ≡ capability c d s → (c ≡ a) × (d ≡ b) × (contentValue s ≤ 65535 + n)
+Valued a b n r = (c d : ℕ) (s : Content) → r ≡ capability c d s → (c ≡ a) × (d ≡ b) × (contentValue s ≤ max 65535 n)
 
 valued-not : (a b n : ℕ) → Valued a b n malformed
 valued-not a b n c d s e = let z : _≡_ {A = ℕ} 0 1 = cc in absurd (omega arith)
@@ -97,7 +97,7 @@ valued-pick : (a b n : ℕ) (x : Bool) (q r : Reading) → (x ≡ true → Value
 valued-pick a b n true q r h k = h refl
 valued-pick a b n false q r h k = k
 
-valued-entry : (a b n : ℕ) (u : Content) → contentValue u ≤ 65535 + n → Valued a b n (capability a b u)
+valued-entry : (a b n : ℕ) (u : Content) → contentValue u ≤ max 65535 n → Valued a b n (capability a b u)
 valued-entry a b n u h c d s e =
     let p : c ≡ a = cc in
     let q : d ≡ b = cc in

@@ -38,13 +38,13 @@ unfolding placed texts
 placed-length p [] = refl
 placed-length p (f ∷ fs) = ap suc (placed-length p fs)
 
--- ---- values fit in four bytes
+-- ---- values fit in two bytes, and so in a record's four
 
-value-small : (t : List ℕ) → length t ≤ 16384 → valueOf (reading t) < 4294967296
+pub value-small : (t : List ℕ) → length t ≤ 16384 → valueOf (reading t) < 65536
 unfolding valueOf
 value-small t h = go (reading t) refl
   where
-    go : (r : Reading) → reading t ≡ r → valueOf r < 4294967296
+    go : (r : Reading) → reading t ≡ r → valueOf r < 65536
     go malformed e = omega arith
     go ignored e = omega arith
     go (link n) e = omega arith
@@ -57,4 +57,4 @@ AllSmall (t ∷ ts) = (valueOf (reading t) < 4294967296) × AllSmall ts
 pub values-small : (ts : List (List ℕ)) → size ts ≤ 16384 → AllSmall ts
 unfolding size
 values-small [] h = tt
-values-small (t ∷ ts) h = (value-small t (omega arith), values-small ts (omega arith))
+values-small (t ∷ ts) h = (omega (arith, value-small t (omega arith)), values-small ts (omega arith))

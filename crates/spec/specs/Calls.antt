@@ -8,6 +8,7 @@ use lib.ListN.{length, replicate}
 use Rattle.spec.specs.Answers.{Outcome, keeping, Report, answerReport, writtenReport, repairedReport}
 use Rattle.spec.specs.Questions.{showReport, flagReport, numberReport, stringOutcome}
 use Rattle.spec.specs.Listing.{listOutcome, flatOutcome}
+use Rattle.spec.specs.Batch.{batchOutcome}
 use Rattle.spec.specs.Repair.{RepairOutcome, flattened, repairOutcome}
 use Rattle.spec.specs.Sending.{sendOutcome, sendAtOutcome}
 
@@ -16,9 +17,9 @@ abbrev pub ascii : Chars → List ℕ
 ascii Chars.[] = []
 ascii (Chars._∷_ c s) = code c ∷ ascii s
 
--- A call. Those with output have a buffer of so many bytes (the last number), all 255. Send is for so many lines at a speed, with the pad
--- byte 0; Send at for a row and a column, with a back and an up string, for one line at speed 0. Repair has two buffers, the second for its
--- records; they are stated one after the other.
+-- A call. Those with output have a buffer of so many bytes (the last number), all 255. A batch has its questions' bytes. Send is for so many
+-- lines at a speed, with the pad byte 0; Send at for a row and a column, with a back and an up string, for one line at speed 0. Repair has
+-- two buffers, the second for its records; they are stated one after the other.
 pub data Call : Type 0 where
   show : Chars → Chars → Call
   flag : Chars → Chars → Chars → Call
@@ -26,6 +27,7 @@ pub data Call : Type 0 where
   string : Chars → Chars → Chars → ℕ → Call
   list : Chars → Chars → ℕ → Call
   flat : Chars → Chars → ℕ → Call
+  batch : Chars → Chars → List ℕ → ℕ → Call
   repair : Chars → ℕ → ℕ → Call
   send : List ℕ → ℕ → ℕ → ℕ → Call
   sendAt : List ℕ → ℕ → ℕ → List ℕ → List ℕ → ℕ → Call
@@ -47,6 +49,7 @@ computed (number db name id) = keeping (numberReport (ascii db) (ascii name) (as
 computed (string db name id room) = reported answerReport (stringOutcome (ascii db) (ascii name) (ascii id) (lent room))
 computed (list db name room) = reported writtenReport (listOutcome (ascii db) (ascii name) (lent room))
 computed (flat db name room) = reported writtenReport (flatOutcome (ascii db) (ascii name) (lent room))
+computed (batch db name questions room) = reported writtenReport (batchOutcome (ascii db) (ascii name) questions (lent room))
 computed (repair db room more) = bothBuffers (repairOutcome (ascii db) (lent room) (lent more))
 computed (send cmd lines speed room) = reported writtenReport (sendOutcome cmd lines speed 0 (lent room))
 computed (sendAt cmd row column back up room) = reported writtenReport (sendAtOutcome cmd row column back up 1 0 0 (lent room))
@@ -58,6 +61,19 @@ reports values bytes rest = record { answer = record { refusal = 0; values = val
 
 abbrev pub refuses : ℕ → ℕ → Outcome Report
 refuses n rest = record { answer = record { refusal = n; values = [] }; buffer = lent rest }
+
+-- The four bytes of a question, and the eight of an answer: present with a value of one byte, absent, or refused.
+abbrev pub asks : Chars → ℕ → List ℕ
+asks id k = ascii id ++ k ∷ 0 ∷ []
+
+abbrev pub present : ℕ → List ℕ
+present v = 0 ∷ 0 ∷ 0 ∷ 0 ∷ 0 ∷ 0 ∷ 0 ∷ v ∷ []
+
+abbrev pub absent : List ℕ
+absent = 1 ∷ 0 ∷ 0 ∷ 0 ∷ 0 ∷ 0 ∷ 0 ∷ 0 ∷ []
+
+abbrev pub refusedWith : ℕ → List ℕ
+refusedWith n = 2 ∷ n ∷ 0 ∷ 0 ∷ 0 ∷ 0 ∷ 0 ∷ 0 ∷ []
 
 -- A repair that writes this text and these records, and leaves so many bytes of each buffer.
 abbrev pub mends : Chars → ℕ → List (List ℕ) → ℕ → Outcome Report

@@ -10,6 +10,7 @@ pub mod Lookup
 pub mod Answers
 pub mod Questions
 pub mod Listing
+pub mod Batch
 pub mod Repair
 pub mod Values
 pub mod Sequences

@@ -28,6 +28,11 @@ lookup id k (f ∷ fs) =
     (pick (matches id k (reading (f .text))) (hit (f .text))
     (lookup id k fs))
 
+-- Whether a cancel of that name is among fields.
+unfoldable pub cancelled : List ℕ → List Field → Bool
+cancelled id [] = false
+cancelled id (f ∷ fs) = either (matches id 0 (reading (f .text))) (cancelled id fs)
+
 -- "Where the answer is present ... the pair is live."
 abbrev pub isPresent : Hit → Bool
 isPresent none = false

@@ -2,7 +2,8 @@
 use Prim.Native.Nat.{ℕ}
 use mathlib.Core.List.{List, [], _∷_, _++_}
 use lib.ListN.{replicate}
-use Rattle.spec.specs.Calls.{ascii, show, flag, number, string, list, repair, send, sendAt, reports, refuses, mends, Example, example, AllHold}
+use Rattle.spec.specs.Calls.{ascii, show, flag, number, string, list, batch, repair, send, sendAt}
+use Rattle.spec.specs.Calls.{asks, present, absent, refusedWith, reports, refuses, mends, Example, example, AllHold}
 use Rattle.spec.specs.Repair.{removalRecord}
 
 -- ---- lines and names
@@ -80,6 +81,36 @@ fieldRulings =
     ∷ example (flag "a|b:tc=b:\nb:am:" "a" "am") (refuses 7 0)
     -- a cancel hides fields of later descriptions
     ∷ example (flag "n:am@:tc=m:\nm:am:" "n" "am") (reports [] [] 0)
+    ∷ []
+
+-- ---- a batch of questions (document 02, Ask 3)
+
+abbrev pub batchRulings : List Example
+batchRulings =
+    -- the three kinds, a cancel, a field behind a link; the value of a string is its decoded length, and its bytes need no room
+    example (batch "n:am:co#80:cl=\\E[H:li@:tc=m:\nm:li#24:bs:le=^@:\n" "n" (asks "am" 1 ++ asks "co" 2 ++ asks "cl" 3 ++ asks "li" 2 ++ asks "bs" 1) 41)
+    (reports (5 ∷ []) (present 1 ++ present 80 ++ present 3 ++ absent ++ present 1) 1)
+    -- a value has four bytes, high byte first
+    ∷ example (batch "n:li#65535:" "n" (asks "li" 2) 8) (reports (1 ∷ []) (0 ∷ 0 ∷ 0 ∷ 0 ∷ 0 ∷ 0 ∷ 255 ∷ 255 ∷ []) 0)
+    -- a field of another kind is passed over; a question may be put twice
+    ∷ example (batch "n:am:" "n" (asks "am" 2 ++ asks "am" 1 ++ asks "am" 1) 24) (reports (3 ∷ []) (absent ++ present 1 ++ present 1) 0)
+    -- a cancel hides later fields of every kind, and none before it
+    ∷ example (batch "n:am:am@:am#5:am=x:" "n" (asks "am" 1 ++ asks "am" 2 ++ asks "am" 3) 24) (reports (3 ∷ []) (present 1 ++ absent ++ absent) 0)
+    -- 2 for a bad id, kind or fourth byte, in its own answer alone
+    ∷ example (batch "n:am:" "n" (asks "tc" 1 ++ asks ".x" 1 ++ asks "a:" 1 ++ asks "am" 0 ++ asks "am" 4 ++ ascii "am" ++ 1 ∷ 1 ∷ asks "am" 1) 56)
+    (reports (7 ∷ []) (refusedWith 2 ++ refusedWith 2 ++ refusedWith 2 ++ refusedWith 2 ++ refusedWith 2 ++ refusedWith 2 ++ present 1) 0)
+    -- what the walk refuses stands in each other answer: 2 comes before it
+    ∷ example (batch "n:am:tc=x:" "n" (asks "am" 1 ++ asks "am" 9) 16) (reports (2 ∷ []) (refusedWith 5 ++ refusedWith 2) 0)
+    ∷ example (batch "n:am:" "x" (asks "am" 1) 8) (reports (1 ∷ []) (refusedWith 4) 0)
+    -- no question: nothing is written, for an unknown name too
+    ∷ example (batch "n:am:" "x" [] 0) (reports (0 ∷ []) [] 0)
+    -- 1, then 15, then 9 for the whole call
+    ∷ example (batch "n:am:" "a|b" (ascii "a") 0) (refuses 1 0)
+    ∷ example (batch "n:am:" "n" (asks "am" 1 ++ ascii "a") 8) (refuses 15 8)
+    ∷ example (batch "n:am:" "n" (ascii "am") 0) (refuses 15 0)
+    -- eight bytes of room for each answer, whatever it is
+    ∷ example (batch "n:am@:" "n" (asks "am" 1) 7) (refuses 9 7)
+    ∷ example (batch "n:am:" "x" (asks "am" 1 ++ asks "tc" 1) 15) (refuses 9 15)
     ∷ []
 
 -- ---- repair (document 02, Ask 2)
@@ -201,4 +232,4 @@ paddingRulings =
     ∷ []
 
 abbrev pub Ruled : Type 0
-Ruled = AllHold lineRulings × AllHold fieldRulings × AllHold repairRulings × AllHold positionRulings × AllHold paddingRulings
+Ruled = AllHold lineRulings × AllHold fieldRulings × AllHold batchRulings × AllHold repairRulings × AllHold positionRulings × AllHold paddingRulings

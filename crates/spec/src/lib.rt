@@ -28,6 +28,7 @@ pub enum Refusal {
     OutOfRange,
     BadPadding,
     TooManyLines,
+    PartialQuestion,
 }
 
 impl Refusal {
@@ -49,6 +50,7 @@ impl Refusal {
             Refusal::OutOfRange => 12,
             Refusal::BadPadding => 13,
             Refusal::TooManyLines => 14,
+            Refusal::PartialQuestion => 15,
         }
     }
 }
@@ -102,7 +104,7 @@ pub enum Answer {
     Refused(Refusal),
 }
 
-// The answer of List, Flat, Send and Send at: the number of records, or of bytes, that were written.
+// The answer of List, Flat, a batch, Send and Send at: the number of records, of answers, or of bytes, that were written.
 pub enum Written {
     Count(usize),
     Refused(Refusal),

@@ -1,5 +1,6 @@
 // The library in one place: the operations of documents 01 and 02 with their answers, the opened reader, and the C functions, which give each
 // result as a number. A slice passes to C as a pointer and a length; the reader has no C functions.
+pub use batch::batch;
 pub use listing::flat;
 pub use listing::list;
 pub use questions::flag;
@@ -25,6 +26,7 @@ ghost use mathlib.Core.Path.{_≡_};
 ghost use Rattle.spec.specs.Answers.{answerReport, writtenReport};
 ghost use Rattle.spec.specs.Questions.{showReport, flagReport, numberReport, stringOutcome, stringReport};
 ghost use Rattle.spec.specs.Listing.{listOutcome, listReport, flatOutcome, flatReport};
+ghost use Rattle.spec.specs.Batch.{batchOutcome, batchReport};
 ghost use Rattle.spec.specs.Repair.{repairOutcome, repairReport};
 ghost use Rattle.spec.specs.Sending.{sendOutcome, sendReport, sendAtOutcome, sendAtReport};
 ghost use Rattle.termcap.specs.Results.{resultOf, storedValue, storedLength, storedSecond};
@@ -120,6 +122,23 @@ pub extern "C" fn termcap_flat(db: &[u8], name: &[u8], out: &mut [u8], count: &m
         × (now (count .exit) ≡ storedValue (flatReport (now (db .entry)) (now (name .entry)) (now (out .entry))) (now (count .entry))) ⌝ }
 {
     give_count(flat(db, name, out), count)
+}
+
+// "A buffer of 4-byte questions": an answer of eight bytes for each, in `out`.
+#[no_mangle]
+pub extern "C" fn termcap_batch(
+    db: &[u8],
+    name: &[u8],
+    questions: &[u8],
+    out: &mut [u8],
+    answers: &mut u64,
+) -> u32
+    ensures { λ r. ⌜ (r ≡ resultOf (batchReport (now (db .entry)) (now (name .entry)) (now (questions .entry)) (now (out .entry))))
+        × (now (out .exit) ≡ batchOutcome (now (db .entry)) (now (name .entry)) (now (questions .entry)) (now (out .entry)) .buffer)
+        × (now (answers .exit)
+        ≡ storedValue (batchReport (now (db .entry)) (now (name .entry)) (now (questions .entry)) (now (out .entry))) (now (answers .entry))) ⌝ }
+{
+    give_count(batch(db, name, questions, out), answers)
 }
 
 // "A mended database, and a 16-byte record for each thing removed": `out` gets the one, `records` the others.

@@ -46,6 +46,52 @@ pub fn fill_in(random: &mut Random, case: &mut Case) {
         }
         _ => Vec::new(),
     };
+    if case.operation == Operation::Batch {
+        case.questions = questions(random, case);
+    }
+}
+
+/// The questions of a batch: mostly whole ones, few where each is slow for the reference.
+fn questions(random: &mut Random, case: &Case) -> Vec<u8> {
+    let most = if case.database.len() > 20_000 { 3 } else { 20 };
+    let live = reference::list_bytes(&case.database, &case.name).unwrap_or_default();
+    let count = random.between(0, most);
+    let mut asked: Vec<u8> = (0..count).flat_map(|_| question(random, case, &live)).collect();
+    if random.chance(6) {
+        let over = random.between(1, 3) as usize;
+        asked.resize((asked.len() + over).saturating_sub(random.pick_value(&[0, 4])), b'a');
+    }
+    asked
+}
+
+/// One question: what the terminal has, the same id with any kind, an id of the database, or one
+/// with a bad byte.
+fn question(random: &mut Random, case: &Case, live: &[u8]) -> [u8; 4] {
+    let records: Vec<&[u8]> = live.chunks(reference::RECORD_BYTES).collect();
+    let kind = random.pick_value(&[1, 2, 3]);
+    let [a, b, kind] = match random.below(10) {
+        0..=3 if !records.is_empty() => {
+            let record = random.pick(&records);
+            [record[0], record[1], record[2]]
+        }
+        4 if !records.is_empty() => {
+            let record = random.pick(&records);
+            [record[0], record[1], kind]
+        }
+        5 => {
+            let id = edge_id(random);
+            [id.first().copied().unwrap_or(b'a'), id.get(1).copied().unwrap_or(b'm'), kind]
+        }
+        _ => {
+            let id = asked_id(random, &case.database, b":#=@");
+            [id.first().copied().unwrap_or(b'a'), id.get(1).copied().unwrap_or(b'm'), kind]
+        }
+    };
+    match random.below(24) {
+        0 => [a, b, random.pick_value(&[0, 4, 48, 255]), 0],
+        1 => [a, b, kind, random.pick_value(&[1, 48, 255])],
+        _ => [a, b, kind, 0],
+    }
 }
 
 fn question_id(

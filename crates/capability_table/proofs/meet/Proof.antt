@@ -4,7 +4,7 @@ use mathlib.Core.Bool.{true}
 use native.Mathlib.Omega.{arith}
 use borrow.Author.Needs.{needs}
 use borrow.Author.Tests.{not-true, not-false}
-use Rattle.capability_table.specs.Table.{hasEntry, isOpen, isFirst, marked}
+use Rattle.capability_table.specs.Table.{hasEntry, isFirst, marked}
 use Rattle.capability_table.proofs.Entries.{Entry, entry, key-inside}
 use Rattle.capability_table.proofs.meet.Statement.{statement}
 use Rattle.capability_table.proofs.meet.Tie as tie
@@ -35,25 +35,15 @@ with-bit-requires c κs = within (c .before .before) .kind
 element-write-table : tie.Need-element-write-table
 element-write-table c = omega (arith, key-inside _ _ _ (within (c .before .before .before)), c .before .before .key .ensures)
 
-has-bit-requires : tie.Need-has-bit-requires
-has-bit-requires c κs = search needs
+is-open-requires : tie.Need-is-open-requires
+is-open-requires c κs = within (c .before .before .before) .kind
 
 returns-2 : tie.Need-returns-2
-unfolding isFirst marked isOpen
+unfolding isFirst marked
 returns-2 c =
-    let e = place (c .before .before .before .before .before) in
-    let k = c .before .before .before .before .key .ensures in
-    (rw (e, ← k, ← c .before .has-bit .ensures, c .if2 .taken), rw (e, c .before .before .with-bit .ensures, k))
-
-has-bit-requires-2 : tie.Need-has-bit-requires-2
-has-bit-requires-2 c κs = within (c .before .before .before .before .before) .kind
-
-returns-3 : tie.Need-returns-3
-unfolding isFirst marked isOpen
-returns-3 c =
-    let e = place (c .before .before .before .before .before .before) in
-    let k = c .before .before .before .before .before .key .ensures in
-    (rw (e, ← k, ← c .before .before .has-bit .ensures, c .before .if2 .left, c .has-bit2 .ensures), rw (e, c .before .before .before .with-bit .ensures, k))
+    let e = place (c .before .before .before .before) in
+    let k = c .before .before .before .key .ensures in
+    (rw (e, ← k, ← c .is-open .ensures), rw (e, c .before .with-bit .ensures, k))
 
 pub meet-spec : {M : Type 1} → statement M
 meet-spec =
@@ -65,7 +55,5 @@ meet-spec =
     element-copy-out-x
     with-bit-requires
     element-write-table
-    has-bit-requires
-    returns-2
-    has-bit-requires-2
-    returns-3)
+    is-open-requires
+    returns-2)
