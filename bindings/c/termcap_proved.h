@@ -131,7 +131,8 @@ uint32_t termcap_flag(const uint8_t *db, size_t db_len, const uint8_t *name, siz
                       const uint8_t *id, size_t id_len, uint64_t *value);
 
 /*
- * Number: the terminal's number, at most 65,535.
+ * Number: the terminal's number, at most 65,535. One that is written with two or more digits, the
+ * first of them 0, is octal: li#030 is 24, and li#08 is malformed (6).
  *
  * TERMCAP_OK: present, *value is the number. TERMCAP_ABSENT: not present.
  * Refusals: 1 to 8.

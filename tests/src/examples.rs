@@ -492,7 +492,19 @@ fn fields() -> Vec<Example> {
         example("a flag and more", list(b"n:am :", b"n"), Refused(6)),
         example("a cancel and more", list(b"n:am@x:", b"n"), Refused(6)),
         example("a name byte above 126", list(b"n:a\x7f:", b"n"), Refused(6)),
-        example("000030", number(b"n:li#000030:", b"n", b"li"), Value(30)),
+        example("030", number(b"n:li#030:", b"n", b"li"), Value(24)),
+        example("000030", number(b"n:li#000030:", b"n", b"li"), Value(24)),
+        example("030 over two lines", number(b"n:li#0\\\n30:", b"n", b"li"), Value(24)),
+        example("0", number(b"n:li#0:", b"n", b"li"), Value(0)),
+        example("00", number(b"n:li#00:", b"n", b"li"), Value(0)),
+        example("8", number(b"n:li#8:", b"n", b"li"), Value(8)),
+        example("08", number(b"n:li#08:", b"n", b"li"), Refused(6)),
+        example("019", number(b"n:li#019:", b"n", b"li"), Refused(6)),
+        example("08 over two lines", number(b"n:li#\\\n0\\\n8:", b"n", b"li"), Refused(6)),
+        example("09 behind a cancel", flag(b"n:am:li@:li#09:", b"n", b"am"), Refused(6)),
+        example("190", number(b"n:li#190:", b"n", b"li"), Value(190)),
+        example("077777", number(b"n:li#077777:", b"n", b"li"), Value(32_767)),
+        example("seven octal digits", number(b"n:li#0177777:", b"n", b"li"), Refused(6)),
         example("seven digits", number(b"n:li#0000030:", b"n", b"li"), Refused(6)),
         example("six digits too large", number(b"n:li#100000:", b"n", b"li"), Refused(6)),
         example("no digits", number(b"n:li#:", b"n", b"li"), Refused(6)),
@@ -592,6 +604,11 @@ fn lookup() -> Vec<Example> {
             "Flat keeps what is written",
             flat(b"n:li#0030:cl=^[\\033:", b"n"),
             bytes(b"n:li#0030:cl=^[\\033:\n"),
+        ),
+        example(
+            "a record has the value of octal digits",
+            list(b"n:li#030:", b"n"),
+            Records(vec![108, 105, 2, 0, 0, 0, 0, 24]),
         ),
         example(
             "place 31",
@@ -737,6 +754,8 @@ fn padding() -> Vec<Example> {
         example("Send copies percent signs", at(b"%d%%%"), bytes(b"%d%%%")),
         example("five digits", at(b"12345"), Refused(13)),
         example("five digits, small", at(b"00001"), Refused(13)),
+        example("010 is ten milliseconds", at(b"010"), bytes(&[b'P'; 10])),
+        example("08 is eight milliseconds", at(b"08"), bytes(&[b'P'; 8])),
         example("four digits", at(b"0003a"), bytes(b"aPPP")),
         example("1.23", at(b"1.23"), Refused(13)),
         example("1.2.3", at(b"1.2.3"), bytes(b".3PP")),
@@ -832,6 +851,11 @@ fn repairs() -> Vec<Example> {
             mended(b"n:.\\:\n", &[[0, 2, 2, 2]]),
         ),
         example("a carriage return", repair(b"n:am:\r\n"), mended(b"n:am:\n", &[[0, 5, 2, 1]])),
+        example(
+            "an 8 in an octal number",
+            repair(b"n:li#08:co#030:it#8:\n"),
+            mended(b"n:co#030:it#8:\n", &[[0, 2, 2, 6]]),
+        ),
     ]
 }
 

@@ -443,8 +443,8 @@ fn read_field(text: &[u8]) -> Result<Meaning, Refusal> {
     Ok(Meaning::Capability(Capability { name: [text[0], text[1]], value }))
 }
 
-/// "nothing (flag); `#` and 1 to 6 decimal digits of at most 65,535 (number, read as decimal); `=`
-/// and a text (string); `@` and nothing (cancel). Anything else is malformed".
+/// "nothing (flag); `#` and 1 to 6 decimal digits of at most 65,535 (number); `=` and a text
+/// (string); `@` and nothing (cancel). Anything else is malformed".
 fn read_value(text: &[u8]) -> Result<Value, Refusal> {
     match text.first() {
         None => Ok(Value::Flag),
@@ -455,14 +455,17 @@ fn read_value(text: &[u8]) -> Result<Value, Refusal> {
     }
 }
 
+/// Ask 4: "A number of two or more digits starting with 0 is octal ... A digit 8 or 9 in it is
+/// malformed. The limits of 6 digits and 65,535 stay."
 fn read_number(digits: &[u8]) -> Result<u32, Refusal> {
     if !(1..=6).contains(&digits.len()) || !digits.iter().all(u8::is_ascii_digit) {
         return Err(MALFORMED);
     }
-    let mut value = 0;
-    for digit in digits {
-        value = value * 10 + u32::from(digit - b'0');
-    }
+    let octal = digits.len() >= 2 && digits.starts_with(b"0");
+    let base = if octal { 8 } else { 10 };
+    // All are digits, so this fails on an 8 or a 9 in an octal number alone.
+    let text = std::str::from_utf8(digits).expect("digits are ASCII");
+    let value = u32::from_str_radix(text, base).map_err(|_| MALFORMED)?;
     require(value <= 65_535, MALFORMED)?;
     Ok(value)
 }

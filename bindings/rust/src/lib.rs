@@ -144,12 +144,14 @@ impl<'a> Database<'a> {
         Ok(present(result, value)?.is_some())
     }
 
-    /// The terminal's number, at most 65,535, or `None` if it is absent.
+    /// The terminal's number, at most 65,535, or `None` if it is absent. One that is written with two
+    /// or more digits, the first of them 0, is octal.
     ///
     /// ```
     /// # use termcap_proved::Database;
-    /// let database = Database::new(b"oven:co#20:li#4:\n");
+    /// let database = Database::new(b"oven:co#20:li#030:\n");
     /// assert_eq!(database.number("oven", "co"), Ok(Some(20)));
+    /// assert_eq!(database.number("oven", "li"), Ok(Some(24)));
     /// assert_eq!(database.number("oven", "it"), Ok(None));
     /// ```
     pub fn number(

@@ -250,7 +250,10 @@ fn the_bound_of_send_at_without_pads_is_kept() {
 #[test]
 fn the_sample_databases() {
     let sample = Database::new(include_bytes!("../../../data/sample.tc"));
+    // Written 01166, which is octal; Flat keeps it so.
     assert_eq!(sample.number("press-4", "TN"), Ok(Some(630)));
+    let flat = sample.flat("press-4").unwrap();
+    assert!(flat.windows(10).any(|part| part == b":TN#01166:"));
     assert_eq!(sample.number("press-4", "co"), Ok(Some(132)));
     assert_eq!(sample.flag("press-4", "am"), Ok(true));
     assert_eq!(sample.flag("press-1", "am"), Ok(false));
@@ -271,6 +274,7 @@ fn the_sample_databases() {
         ("no-colon", Refusal::Malformed),
         ("bad-number", Refusal::Malformed),
         ("big-number", Refusal::Malformed),
+        ("eight-in-octal", Refusal::Malformed),
         ("bad-colon", Refusal::Malformed),
         ("after-link", Refusal::Malformed),
         ("long-link", Refusal::Malformed),

@@ -9,14 +9,20 @@ ghost use Prim.Native.Nat.{_≤_};
 ghost use mathlib.Core.Path.{_≡_};
 ghost use mathlib.Core.List.{_∷_};
 ghost use Rattle.spec.specs.Choice.{pick};
+ghost use Rattle.spec.specs.Digits.{isDigit};
 ghost use Rattle.spec.specs.Lines.{blank};
 ghost use Rattle.spec.specs.Refusals.{nameByte, idByte, idBytes};
-ghost use Rattle.spec.specs.Fields.{ignored, malformed, contentReading, linkReading};
+ghost use Rattle.spec.specs.Fields.{numberBase, ignored, malformed, contentReading, linkReading};
 ghost use Rattle.field_bounds.specs.Answers.{fieldAt};
 ghost use Rattle.fields.specs.Readings.{Starts, otherReading, nameReading, Numbers, Stops, Reads, ReadUpTo, FieldsFrom};
 
 // The most bytes of a name.
 const NAME_LIMIT: usize = 64;
+
+// The bases of a number.
+const DECIMAL: u32 = 10;
+
+const OCTAL: u32 = 8;
 
 // The most digits of a number.
 const DIGIT_LIMIT: usize = 6;
@@ -166,8 +172,35 @@ pub fn is_id(a: u8, b: u8) -> bool
     }
 }
 
-// "1 to 6 decimal digits of at most 65,535."
-fn read_digits(s: &[u8], at: usize) -> Digits
+// "A number of two or more digits starting with 0 is octal."
+fn number_base(s: &[u8], at: usize) -> u32
+    ensures { λ r. ⌜ r ≡ numberBase (fieldAt (now (s .entry)) at) ⌝ }
+{
+    let Step::Byte(first, n) = field_byte(s, at) else {
+        return DECIMAL;
+    };
+    if first != b'0' {
+        return DECIMAL;
+    }
+    match field_byte(s, n) {
+        Step::Byte(_, _) => OCTAL,
+        Step::End => DECIMAL,
+    }
+}
+
+// Whether a byte is a digit in a base.
+fn is_digit(b: u8, base: u32) -> bool
+    ensures { λ r. ⌜ r ≡ isDigit base b ⌝ }
+{
+    if b < b'0' {
+        return false;
+    }
+    wide(b - b'0') < base
+}
+
+// "1 to 6 decimal digits of at most 65,535", in the number's base: "a digit 8 or 9 in [an octal one] is malformed".
+fn read_digits(s: &[u8], at: usize, base: u32) -> Digits
+    requires { ⌜ base ≡ numberBase (fieldAt (now s) at) ⌝ }
     ensures { λ r. ⌜ Numbers (now (s .entry)) at r ⌝ }
 {
     let mut i = at;
@@ -179,14 +212,12 @@ fn read_digits(s: &[u8], at: usize) -> Digits
                 if k == DIGIT_LIMIT {
                     return Digits::Bad(i, k);
                 }
-                match b {
-                    b'0'..=b'9' => {
-                        v = v * 10 + wide(b - b'0');
-                        k += 1;
-                        i = n;
-                    }
-                    _ => return Digits::Bad(i, k),
+                if !is_digit(b, base) {
+                    return Digits::Bad(i, k);
                 }
+                v = v * base + wide(b - b'0');
+                k += 1;
+                i = n;
             }
             Step::End => {
                 if k == 0 {
@@ -208,11 +239,11 @@ fn wide(b: u8) -> u32
     b as u32
 }
 
-// "`#` and 1 to 6 decimal digits (number)."
+// "`#` and 1 to 6 decimal digits (number ...)."
 fn read_number(s: &[u8], at: usize, a: u8, b: u8) -> Stopped
     ensures { λ r. ⌜ Stops (now (s .entry)) at 3 (contentReading a b (35 ∷ fieldAt (now (s .entry)) at)) r ⌝ }
 {
-    match read_digits(s, at) {
+    match read_digits(s, at, number_base(s, at)) {
         Digits::Value(v, i, k) => Stopped(FieldRead::Number(a, b, v), i, 3 + k),
         Digits::Bad(i, k) => Stopped(FieldRead::Malformed, i, 3 + k),
     }
@@ -295,7 +326,7 @@ fn read_from(s: &[u8], at: usize) -> Stopped
     }
 }
 
-// The field at a place and the place behind it. Its bytes are read once: its end is looked for from where its reader stopped.
+// The field at a place and the place behind it. Its end is looked for from where its reader stopped, so that no byte is read again for it.
 pub fn next_field(s: &[u8], at: usize) -> NextField
     ensures { λ r. ⌜ FieldsFrom (now (s .entry)) at r ⌝ }
 {

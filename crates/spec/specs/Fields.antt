@@ -47,11 +47,13 @@ size (f ∷ fs) = length f + 1 + size fs
 unfoldable pub lineSize : List ℕ → ℕ
 lineSize l = length (namesOf l) + 1 + size (fieldsOf l)
 
--- ---- "`#` and 1 to 6 decimal digits of at most 65,535 (number, read as decimal)"
+-- ---- "`#` and 1 to 6 decimal digits of at most 65,535 (number ...)"
 
--- Decimal whatever the digits are, a leading zero too.
+-- Document 02, Ask 4: "a number of two or more digits starting with 0 (48) is octal ... A digit 8 or 9 in it is malformed."
 unfoldable pub numberBase : List ℕ → ℕ
-numberBase digits = 10
+numberBase [] = 10
+numberBase (c ∷ []) = 10
+numberBase (c ∷ d ∷ digits) = pick (eqb c 48) 8 10
 
 unfoldable pub numberValue : List ℕ → ℕ
 numberValue digits = value (numberBase digits) digits

@@ -2,7 +2,7 @@
 use Prim.Native.Nat.{ℕ}
 use mathlib.Core.List.{List, [], _∷_, _++_}
 use lib.ListN.{replicate}
-use Rattle.spec.specs.Calls.{ascii, show, flag, number, string, list, batch, repair, send, sendAt}
+use Rattle.spec.specs.Calls.{ascii, show, flag, number, string, list, flat, batch, repair, send, sendAt}
 use Rattle.spec.specs.Calls.{asks, present, absent, refusedWith, reports, refuses, mends, Example, example, AllHold}
 use Rattle.spec.specs.Repair.{removalRecord}
 
@@ -66,11 +66,27 @@ fieldRulings =
     ∷ example (string "n:cl=\\072:" "n" "cl" 2) (reports (1 ∷ []) (58 ∷ []) 1)
     ∷ example (string "n:cl=\\377:" "n" "cl" 1) (reports (1 ∷ []) (255 ∷ []) 0)
     ∷ example (string "n:cl=\\400:" "n" "cl" 1) (refuses 6 1)
-    -- one to six decimal digits of at most 65,535
-    ∷ example (number "n:li#000030:" "n" "li") (reports (30 ∷ []) [] 0)
+    -- two or more digits that start with a zero are octal (document 02, Ask 4); one digit is decimal
+    ∷ example (number "n:li#030:" "n" "li") (reports (24 ∷ []) [] 0)
+    ∷ example (number "n:li#000030:" "n" "li") (reports (24 ∷ []) [] 0)
+    ∷ example (number "n:li#0\\\n30:" "n" "li") (reports (24 ∷ []) [] 0)
+    ∷ example (number "n:li#0:" "n" "li") (reports (0 ∷ []) [] 0)
+    ∷ example (number "n:li#00:" "n" "li") (reports (0 ∷ []) [] 0)
+    ∷ example (number "n:li#8:" "n" "li") (reports (8 ∷ []) [] 0)
+    ∷ example (number "n:li#100:" "n" "li") (reports (100 ∷ []) [] 0)
+    -- an 8 or a 9 in one is malformed, also where a cancel hides it
+    ∷ example (number "n:li#08:" "n" "li") (refuses 6 0)
+    ∷ example (number "n:li#019:" "n" "li") (refuses 6 0)
+    ∷ example (flag "n:am:li@:tc=m:\nm:li#09:" "n" "am") (refuses 6 0)
+    -- one to six digits of at most 65,535; the greatest octal number is 32,767
+    ∷ example (number "n:li#077777:" "n" "li") (reports (32767 ∷ []) [] 0)
     ∷ example (number "n:li#0000030:" "n" "li") (refuses 6 0)
     ∷ example (number "n:li#65535:" "n" "li") (reports (65535 ∷ []) [] 0)
     ∷ example (number "n:li#65536:" "n" "li") (refuses 6 0)
+    -- a record has the value; Flat copies the digits as written, and alone it answers the same
+    ∷ example (list "n:li#030:" "n" 8) (reports (1 ∷ []) (108 ∷ 105 ∷ 2 ∷ 0 ∷ 0 ∷ 0 ∷ 0 ∷ 24 ∷ []) 0)
+    ∷ example (flat "n:li#030:" "n" 10) (reports (10 ∷ []) (ascii "n:li#030:\n") 0)
+    ∷ example (number "n:li#030:\n" "n" "li") (reports (24 ∷ []) [] 0)
     -- 1 before 2 before the walk; an absent string needs no room
     ∷ example (flag "" "a|b" "tc") (refuses 1 0)
     ∷ example (flag "" "n" "tc") (refuses 2 0)
@@ -130,6 +146,8 @@ repairRulings =
     -- malformed comes before what follows a link; a first link is the first that is well formed; ignored fields stay
     ∷ example (repair "n:tc=:am:tc=m:tc:tc=n:.x:co:\nm:\n" 17 64)
     (mends "n:am:tc=m:.x:\nm:\n" 0 (removalRecord 0 2 2 4 ∷ removalRecord 0 14 2 3 ∷ removalRecord 0 17 3 5 ∷ removalRecord 0 25 3 3 ∷ []) 0)
+    -- an octal number with an 8 or a 9 is malformed (Ask 4); a number that stays keeps its digits
+    ∷ example (repair "n:li#08:co#030:it#8:\n" 15 16) (mends "n:co#030:it#8:\n" 0 (removalRecord 0 2 2 6 ∷ []) 0)
     -- what follows a link does not come back when the link goes
     ∷ example (repair "n:tc=q:am:\n" 3 32) (mends "n:\n" 0 (removalRecord 0 2 4 5 ∷ removalRecord 0 7 3 3 ∷ []) 0)
     -- a dropped line neither answers nor shadows
@@ -220,6 +238,9 @@ paddingRulings =
     ∷ example (send (ascii "5*.3") 1 0 2) (reports (2 ∷ []) (ascii ".3") 0)
     ∷ example (send (ascii "5**") 1 0 1) (reports (1 ∷ []) (ascii "*") 0)
     ∷ example (send (ascii ".5x") 1 9600 3) (reports (3 ∷ []) (ascii ".5x") 0)
+    -- digits of a delay are decimal, also behind a zero
+    ∷ example (send (ascii "010") 1 9600 11) (reports (10 ∷ []) (replicate 10 0) 1)
+    ∷ example (send (ascii "08") 1 9600 8) (reports (8 ∷ []) (replicate 8 0) 0)
     -- the tenth is multiplied by the lines too; percent signs are copied
     ∷ example (send (ascii "1.5*%d") 2 9600 5) (reports (5 ∷ []) (ascii "%d" ++ replicate 3 0) 0)
     -- 12 for the inputs, also without padding, comes before 13, and 13 before the body

@@ -394,9 +394,9 @@ pub fn field(random: &mut Random, ids: &[&[u8]]) -> Vec<u8> {
 }
 
 fn number_text(random: &mut Random) -> Vec<u8> {
-    const TEXTS: [&[u8]; 13] = [
+    const TEXTS: [&[u8]; 16] = [
         b"0", b"1", b"9", b"24", b"30", b"80", b"255", b"256", b"000030", b"065535", b"65535",
-        b"000000", b"010",
+        b"000000", b"010", b"00", b"0377", b"077777",
     ];
     if random.chance(70) {
         random.pick(&TEXTS).to_vec()
@@ -504,9 +504,10 @@ pub fn edge_field(random: &mut Random) -> Vec<u8> {
 }
 
 fn edge_number(random: &mut Random) -> Vec<u8> {
-    const NUMBERS: [&[u8]; 14] = [
+    const NUMBERS: [&[u8]; 22] = [
         b"", b"65535", b"65536", b"65536", b"065536", b"65545", b"99999", b"100000", b"131071",
-        b"000030", b"0000030", b"0065535", b"999999", b"4294967326",
+        b"000030", b"0000030", b"0065535", b"999999", b"4294967326", b"08", b"09", b"00", b"019",
+        b"0190", b"077778", b"077777", b"0177777",
     ];
     random.pick(&NUMBERS).to_vec()
 }

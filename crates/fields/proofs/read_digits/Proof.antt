@@ -1,23 +1,25 @@
--- `fields::read_digits` meets its contract: the digits up to the place `i` are `k`, with the value `v`.
+-- `fields::read_digits` meets its contract: the digits up to the place `i` are `k`, with the value `v` in the base.
 -- Assumes nothing.
 use native.Mathlib.Omega.{arith}
 use Prim.Native.Nat.{_-_}
+use mathlib.Core.Path.{_∙_, sym}
 use lib.ListN.{length}
-use Rattle.spec.proofs.DigitBytes.{digit-is, digit-not}
-use Rattle.fields.proofs.Numbers.{Counted, counted-none, counted-small, counted-long, counted-not, counted-on}
+use borrow.Author.Tests.{not-true, not-false}
+use Rattle.spec.proofs.DigitBytes.{digit-low}
+use Rattle.fields.proofs.Numbers.{Counted, counted-none, counted-long, counted-not, counted-on, counted-room}
 use Rattle.fields.proofs.Numbers.{counted-empty, counted-large, counted-good}
 use borrow.Author.Needs.{needs}
 use Rattle.fields.proofs.read_digits.Statement.{statement}
 use Rattle.fields.proofs.read_digits.Tie as tie
 
 abbrev Inv-loop : tie.InvT-loop
-Inv-loop s at i₀ k₀ v₀ i k v = Counted 10 s at i k v
+Inv-loop s at base i₀ k₀ v₀ i k v = Counted base s at i k v
 
 abbrev μ-loop : tie.MeasureT-loop
-μ-loop s at i₀ k₀ v₀ i k v = length s - i
+μ-loop s at base i₀ k₀ v₀ i k v = length s - i
 
 loop-holds : tie.Need-loop-holds Inv-loop μ-loop
-loop-holds c = counted-none _ _
+loop-holds c = counted-none _ _ _ (c .before .pre)
 
 field-byte-requires : tie.Need-field-byte-requires Inv-loop μ-loop
 field-byte-requires c κs = search needs
@@ -31,18 +33,41 @@ returns c =
     let inv = c .before .before .before .before .before .loop .inv in
     (counted-long _ _ _ _ _ _ inv _ _ (p .0) (omega arith), inv .passed, inv .few)
 
+is-digit-requires : tie.Need-is-digit-requires Inv-loop μ-loop
+is-digit-requires c κs = search needs
+
+returns-2 : tie.Need-returns-2 Inv-loop μ-loop
+returns-2 c =
+    let p = rw (c .before .before .before .before .b .given .1) at (c .before .before .before .before .before .before .field-byte .ensures) in
+    let inv = c .before .before .before .before .before .before .before .loop .inv in
+    let other = sym (c .before .is-digit .ensures) ∙ not-true _ (c .if2 .taken) in
+    (counted-not _ _ _ _ _ _ inv _ _ (p .0) other, inv .passed, inv .few)
+
 mul-v : tie.Need-mul-v Inv-loop μ-loop
 mul-v c =
-    let small = counted-small _ _ _ _ _ _ (c .before .before .before .before .before .before .before .loop .inv) in
-    omega arith
+    let p = rw (c .before .before .before .before .b .given .1) at (c .before .before .before .before .before .before .field-byte .ensures) in
+    let inv = c .before .before .before .before .before .before .before .loop .inv in
+    let digit = sym (c .before .is-digit .ensures) ∙ not-false _ (c .if2 .left) in
+    let room = counted-room _ _ _ _ _ _ inv _ _ (p .0) (p .3) digit (omega arith) in
+    omega (arith, room)
+
+sub-wide : tie.Need-sub-wide Inv-loop μ-loop
+sub-wide c =
+    let digit = sym (c .before .is-digit .ensures) ∙ not-false _ (c .if2 .left) in
+    let base = c .before .before .before .before .before .before .before .before .before .args .base in
+    let low = digit-low base (c .before .before .before .before .b .given .0 .0) digit in
+    omega (arith, low)
 
 wide-requires : tie.Need-wide-requires Inv-loop μ-loop
 wide-requires c κs = search needs
 
 add-v : tie.Need-add-v Inv-loop μ-loop
 add-v c =
-    let small = counted-small _ _ _ _ _ _ (c .before .before .before .before .before .before .before .before .loop .inv) in
-    omega arith
+    let p = rw (c .before .before .before .before .before .b .given .1) at (c .before .before .before .before .before .before .before .field-byte .ensures) in
+    let inv = c .before .before .before .before .before .before .before .before .loop .inv in
+    let digit = sym (c .before .before .is-digit .ensures) ∙ not-false _ (c .before .if2 .left) in
+    let room = counted-room _ _ _ _ _ _ inv _ _ (p .0) (p .3) digit (omega arith) in
+    omega (arith, room, c .wide .ensures)
 
 add-k : tie.Need-add-k Inv-loop μ-loop
 add-k c = search needs
@@ -56,38 +81,26 @@ loop-again : tie.Need-loop-again Inv-loop μ-loop
 loop-again c =
     let p = rw (c .before .before .before .before .before .b .given .1) at (c .before .before .before .before .before .before .before .field-byte .ensures) in
     let inv = c .before .before .before .before .before .before .before .before .loop .inv in
-    let digit = digit-is 10 (c .before .before .before .before .before .b .given .0 .0) (omega arith) (omega arith) in
+    let digit = sym (c .before .before .is-digit .ensures) ∙ not-false _ (c .before .if2 .left) in
     rw (c .wide .ensures) (counted-on _ _ _ _ _ _ inv _ _ (p .0) (p .3) digit (omega arith))
-
-returns-2 : tie.Need-returns-2 Inv-loop μ-loop
-returns-2 c =
-    let p = rw (c .before .before .before .b .given .1) at (c .before .before .before .before .before .field-byte .ensures) in
-    let inv = c .before .before .before .before .before .before .loop .inv in
-    (counted-not _ _ _ _ _ _ inv _ _ (p .0) (digit-not 10 (c .before .before .before .b .given .0 .0) (λ w. omega arith)), inv .passed, inv .few)
-
-returns-3 : tie.Need-returns-3 Inv-loop μ-loop
-returns-3 c =
-    let p = rw (c .before .before .before .before .b .given .1) at (c .before .before .before .before .before .before .field-byte .ensures) in
-    let inv = c .before .before .before .before .before .before .before .loop .inv in
-    (counted-not _ _ _ _ _ _ inv _ _ (p .0) (digit-not 10 (c .before .before .before .before .b .given .0 .0) (λ w. omega arith)), inv .passed, inv .few)
 
 enum-told : tie.Need-enum-told Inv-loop μ-loop
 enum-told c = search needs
 
-returns-4 : tie.Need-returns-4 Inv-loop μ-loop
-returns-4 c =
+returns-3 : tie.Need-returns-3 Inv-loop μ-loop
+returns-3 c =
     let p = rw (c .before .enum-told .given .1) at (c .before .before .before .field-byte .ensures) in
     let inv = c .before .before .before .before .loop .inv in
     (counted-empty _ _ _ _ _ _ inv p (omega arith), inv .passed, inv .few)
 
-returns-5 : tie.Need-returns-5 Inv-loop μ-loop
-returns-5 c =
+returns-4 : tie.Need-returns-4 Inv-loop μ-loop
+returns-4 c =
     let p = rw (c .before .before .enum-told .given .1) at (c .before .before .before .before .field-byte .ensures) in
     let inv = c .before .before .before .before .before .loop .inv in
     (counted-large _ _ _ _ _ _ inv p (omega arith), inv .passed, inv .few)
 
-returns-6 : tie.Need-returns-6 Inv-loop μ-loop
-returns-6 c =
+returns-5 : tie.Need-returns-5 Inv-loop μ-loop
+returns-5 c =
     let p = rw (c .before .before .enum-told .given .1) at (c .before .before .before .before .field-byte .ensures) in
     let q = counted-good _ _ _ _ _ _ (c .before .before .before .before .before .loop .inv) p (λ e. omega arith) (omega arith) in
     (q .0, q .1, c .before .before .before .before .before .loop .inv .passed, c .before .before .before .before .before .loop .inv .few)
@@ -102,15 +115,16 @@ read-digits-spec =
     field-byte-requires
     enum-known-b
     returns
+    is-digit-requires
+    returns-2
     mul-v
+    sub-wide
     wide-requires
     add-v
     add-k
     loop-less
     loop-again
-    returns-2
-    returns-3
     enum-told
+    returns-3
     returns-4
-    returns-5
-    returns-6)
+    returns-5)

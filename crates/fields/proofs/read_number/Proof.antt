@@ -7,22 +7,25 @@ use borrow.Author.Needs.{needs}
 use Rattle.fields.proofs.read_number.Statement.{statement}
 use Rattle.fields.proofs.read_number.Tie as tie
 
+number-base-requires : tie.Need-number-base-requires
+number-base-requires c κs = search needs
+
 read-digits-requires : tie.Need-read-digits-requires
 read-digits-requires c κs = search needs
 
 enum-known-v : tie.Need-enum-known-v
 enum-known-v c = search needs
 
-add-t13 : tie.Need-add-t13
-add-t13 c =
+add-t14 : tie.Need-add-t14
+add-t14 c =
     let p = rw (c .before .v .given .1) at (c .before .before .before .read-digits .ensures) in
     omega arith
 
 enum-known-i : tie.Need-enum-known-i
 enum-known-i c = search needs
 
-add-t15 : tie.Need-add-t15
-add-t15 c =
+add-t16 : tie.Need-add-t16
+add-t16 c =
     let p = rw (c .before .i .given .1) at (c .before .before .before .read-digits .ensures) in
     omega arith
 
@@ -42,10 +45,11 @@ pub read-number-spec : {M : Type 1} → statement M
 read-number-spec =
     tie.close
     (tie.spec
+    number-base-requires
     read-digits-requires
     enum-known-v
-    add-t13
+    add-t14
     enum-known-i
-    add-t15
+    add-t16
     returns
     returns-2)
