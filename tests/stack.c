@@ -32,17 +32,39 @@ static void *call(void *which)
 {
     static const uint8_t questions[] = "am\1\0co\2\0cm\3\0xx\1\0tc\1\0am\4";
     const uint8_t *n = (const uint8_t *)name, *id = (const uint8_t *)"cm";
+    /* Seven empty files, and all of the database as the last one. */
+    const size_t ends[TERMCAP_FILES] = {0, 0, 0, 0, 0, 0, 0, db_len};
     size_t n_len = strlen(name);
     uint64_t x, y;
     switch (*(int *)which) {
-    case SHOW: termcap_show(db, db_len, n, n_len, &x, &y); break;
-    case FLAG: termcap_flag(db, db_len, n, n_len, id, 2, &x); break;
-    case NUMBER: termcap_number(db, db_len, n, n_len, id, 2, &x); break;
-    case STRING: termcap_string(db, db_len, n, n_len, id, 2, out, sizeof out, &x); break;
-    case LIST: termcap_list(db, db_len, n, n_len, out, sizeof out, &x); break;
-    case FLAT: termcap_flat(db, db_len, n, n_len, out, sizeof out, &x); break;
+    case SHOW:
+        termcap_show(db, db_len, n, n_len, &x, &y);
+        termcap_show_files(db, db_len, ends, TERMCAP_FILES, n, n_len, &x, &y);
+        break;
+    case FLAG:
+        termcap_flag(db, db_len, n, n_len, id, 2, &x);
+        termcap_flag_files(db, db_len, ends, TERMCAP_FILES, n, n_len, id, 2, &x);
+        break;
+    case NUMBER:
+        termcap_number(db, db_len, n, n_len, id, 2, &x);
+        termcap_number_files(db, db_len, ends, TERMCAP_FILES, n, n_len, id, 2, &x);
+        break;
+    case STRING:
+        termcap_string(db, db_len, n, n_len, id, 2, out, sizeof out, &x);
+        termcap_string_files(db, db_len, ends, TERMCAP_FILES, n, n_len, id, 2, out, sizeof out, &x);
+        break;
+    case LIST:
+        termcap_list(db, db_len, n, n_len, out, sizeof out, &x);
+        termcap_list_files(db, db_len, ends, TERMCAP_FILES, n, n_len, out, sizeof out, &x);
+        break;
+    case FLAT:
+        termcap_flat(db, db_len, n, n_len, out, sizeof out, &x);
+        termcap_flat_files(db, db_len, ends, TERMCAP_FILES, n, n_len, out, sizeof out, &x);
+        break;
     case BATCH:
         termcap_batch(db, db_len, n, n_len, questions, sizeof questions, out, sizeof out, &x);
+        termcap_batch_files(db, db_len, ends, TERMCAP_FILES, n, n_len, questions, sizeof questions,
+                            out, sizeof out, &x);
         break;
     case REPAIR:
         termcap_repair(db, db_len, mended, sizeof mended, out, sizeof out, &x, &y);

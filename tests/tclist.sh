@@ -36,10 +36,10 @@ N9|aaa:am:li#30:tc=aaa-unk:
 NY|aaa-unk:co#80:li#48:cl=\E[H:
 QZ|aaa-nam:am@:tc=aaa:
 END
-whole=$'108 105 2 1 0 0 0 30\n99 111 2 2 0 0 0 80\n99 108 3 2 0 0 0 3\n'
+whole=$'108 105 2 1 0 0 0 30 0 0 0 0\n99 111 2 2 0 0 0 80 0 0 0 0\n99 108 3 2 0 0 0 3 0 0 0 0\n'
 good=$(times 64 n)
 printf '%s:co#65535:\n%sn:co#1:\n' "$good" "$good" > long.tc
-good_record=$'99 111 2 0 0 0 255 255\n'
+good_record=$'99 111 2 0 0 0 255 255 0 0 0 0\n'
 printf 'crlf:co#80:\r\n' > crlf.tc
 : > empty.tc
 mkdir folder

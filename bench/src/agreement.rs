@@ -1,7 +1,7 @@
 //! All implementations give the same answers: to what is timed, and to more.
 
 use termcap_tests::random::Random;
-use termcap_tests::reference::Position;
+use termcap_tests::reference::{Files, Position};
 use termcap_tests::subject::{Reference, Subject, ACCEPTED};
 
 use crate::contender::{Row, Wanted, RIVALS};
@@ -108,7 +108,7 @@ fn place(start: usize) -> String {
 
 fn shown<S: Subject>(subject: &S, wanted: Wanted) -> usize {
     let (mut start, mut length) = (0, 0);
-    match subject.show(wanted.database, wanted.name, &mut start, &mut length) {
+    match subject.show(Files::alone(wanted.database), wanted.name, &mut start, &mut length) {
         ACCEPTED => start as usize,
         _ => NOWHERE,
     }

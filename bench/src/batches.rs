@@ -3,7 +3,7 @@
 use std::time::{Duration, Instant};
 
 use termcap_tests::reference::batch::{ANSWER_BYTES, QUESTION_BYTES};
-use termcap_tests::reference::{list_bytes, RECORD_BYTES};
+use termcap_tests::reference::{list_bytes, Files, RECORD_BYTES};
 use termcap_tests::subject::{Reference, Subject};
 
 use crate::agreement::Checked;
@@ -27,7 +27,7 @@ const ABSENT: [&[u8; 2]; 4] = [b"zz", b"Zz", b"~~", b"!!"];
 /// Questions about one terminal.
 pub struct Batch<'a> {
     name: String,
-    database: &'a [u8],
+    database: Files<'a>,
     terminal: &'a [u8],
     questions: Vec<u8>,
 }
@@ -41,6 +41,7 @@ pub fn all(large: &Large) -> Vec<Batch<'_>> {
 
 /// What the terminal has, and then what it has not.
 fn batch<'a>(name: &str, database: &'a [u8], terminal: &'a [u8]) -> Batch<'a> {
+    let database = Files::alone(database);
     let records = list_bytes(database, terminal).expect("the terminal is there");
     let present = records.chunks(RECORD_BYTES).map(|record| [record[0], record[1], record[2], 0]);
     let absent = ABSENT.iter().cycle().map(|id| [id[0], id[1], 1, 0]);
@@ -68,7 +69,7 @@ fn together(batch: &Batch, subject: &impl Subject, out: &mut [u8]) -> u32 {
 
 /// The same questions one by one.
 fn alone(batch: &Batch, subject: &impl Subject, out: &mut [u8]) {
-    let Batch { database, terminal, questions, .. } = batch;
+    let &Batch { database, terminal, ref questions, .. } = batch;
     for question in questions.chunks(QUESTION_BYTES) {
         let id = &question[..2];
         match question[2] {

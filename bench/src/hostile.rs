@@ -2,6 +2,7 @@
 
 use std::time::Duration;
 
+use termcap_tests::reference::Files;
 use termcap_tests::subject::{Subject, ACCEPTED};
 
 use crate::contender::{Contender, Row, Wanted};
@@ -77,6 +78,6 @@ fn chain_bytes(row: &Row) -> usize {
 
 fn found(wanted: Wanted) -> Option<(usize, usize)> {
     let (mut start, mut length) = (0, 0);
-    let code = Library.show(wanted.database, wanted.name, &mut start, &mut length);
+    let code = Library.show(Files::alone(wanted.database), wanted.name, &mut start, &mut length);
     (code == ACCEPTED).then_some((start as usize, length as usize))
 }

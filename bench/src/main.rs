@@ -14,6 +14,7 @@ mod plain_c;
 mod question;
 mod repairs;
 mod rows;
+mod several_files;
 mod targets;
 mod timing;
 
@@ -98,6 +99,7 @@ fn measure(targets: &mut Targets) -> agreement::Checked {
     hostile::print(&hostile, targets);
     batches::print(&to_batch, targets);
     repairs::print(&to_repair, targets);
+    several_files::print(&large.bytes, targets);
     let [searching, _, _, sending] = &groups[..] else {
         return Err("the groups of rows are not those that are counted".to_string());
     };

@@ -1,6 +1,6 @@
 //! One call of one operation with its inputs, asked of any implementation.
 
-use termcap_tests::reference::Position;
+use termcap_tests::reference::{Files, Position};
 use termcap_tests::subject::Subject;
 
 use crate::plain_c;
@@ -20,7 +20,7 @@ pub enum Question<'a> {
     /// The id is not looked at by Show, List and Flat.
     Read {
         reading: Reading,
-        database: &'a [u8],
+        database: Files<'a>,
         name: &'a [u8],
         id: &'a [u8],
     },
@@ -42,7 +42,7 @@ pub struct Answer {
 }
 
 /// Bytes of a buffer that every output fits.
-pub const ROOM: usize = 43_680;
+pub const ROOM: usize = 65_520;
 
 const LINES: u64 = 1;
 const SPEED: u64 = 9_600;

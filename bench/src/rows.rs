@@ -1,6 +1,6 @@
 //! The rows of the main table.
 
-use termcap_tests::reference::Position;
+use termcap_tests::reference::{Files, Position};
 
 use crate::contender::{Row, Wanted};
 use crate::databases::large::{Large, CHAIN, CHAIN_FLAG};
@@ -111,7 +111,7 @@ pub fn reading<'a>(
 }
 
 fn read<'a>(reading: Reading, database: &'a [u8], name: &'a [u8], id: &'a [u8]) -> Question<'a> {
-    Question::Read { reading, database, name, id }
+    Question::Read { reading, database: Files::alone(database), name, id }
 }
 
 /// A command with no sequence in it.

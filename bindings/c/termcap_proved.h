@@ -11,9 +11,19 @@
  * number. With any result but TERMCAP_OK no byte of an output buffer and none of the numbers changes.
  * With TERMCAP_OK the bytes of a buffer past those reported stay as they were.
  *
- * Order of refusals: 1, 2, 3, then the walk (4 to 8), then 9. At each step of the walk: find the line
+ * Files. termcap_X takes one file, which fills `db`. termcap_X_files takes up to TERMCAP_FILES files,
+ * one after the other in `db`, by their ends: the first starts at 0, each other where the one before
+ * ends, and `ends` has the place after the last byte of each. Bytes after the last end are not read.
+ * The asked name is searched from the first file on, and the name of a link from the file of its own
+ * line on, never in an earlier one. Each file is joined by itself, and its end ends its last line. For
+ * a private file before the common one, with both read into `db`:
+ *
+ *     size_t ends[2] = {private_len, private_len + common_len};
+ *     result = termcap_number_files(db, ends[1], ends, 2, name, name_len, id, 2, &columns);
+ *
+ * Order of refusals: 16, 1, 2, 3, then the walk (4 to 8), then 9. At each step of the walk: find the line
  * (4 for the first, else 5), then 7, then the 33rd description (8), then 6, then the size (8), then
- * the next link. A batch: 1, 3, 15, 9; what the walk refuses stands in its answers. Repair: 3, 14, 9.
+ * the next link. A batch: 16, 1, 3, 15, 9; what the walk refuses stands in its answers. Repair: 3, 14, 9.
  * Send and Send at: 12 for the inputs, 13, then faults from left to right through the body (10 to
  * 12), then 9.
  *
@@ -42,7 +52,7 @@ extern "C" {
 #define TERMCAP_BAD_NAME 1u
 /* The id is not two bytes 33..126, has a colon or a backslash, starts with a point, or is "tc". */
 #define TERMCAP_BAD_ID 2u
-/* The database is over 1,048,576 bytes. */
+/* The database is over 1,048,576 bytes: all of the buffer counts. */
 #define TERMCAP_DATABASE_TOO_LARGE 3u
 /* No description has the asked name. */
 #define TERMCAP_UNKNOWN_NAME 4u
@@ -68,12 +78,17 @@ extern "C" {
 #define TERMCAP_TOO_MANY_LINES 14u
 /* A batch's questions are not a multiple of four bytes. */
 #define TERMCAP_PARTIAL_QUESTION 15u
+/* Ends that fall or pass the buffer, or over eight of them. Equal ends do not fall. */
+#define TERMCAP_BAD_ENDS 16u
+
+/* The most files in one buffer. */
+#define TERMCAP_FILES 8u
 
 /* Bytes of one record of termcap_list. */
-#define TERMCAP_RECORD_BYTES 8u
+#define TERMCAP_RECORD_BYTES 12u
 /* With buffers of these sizes termcap_list, termcap_flat and termcap_string never give 9. This is
  * proved (crates/demands/specs/Room.antt). */
-#define TERMCAP_LIST_BYTES 43680u
+#define TERMCAP_LIST_BYTES 65520u
 #define TERMCAP_FLAT_BYTES 16385u
 #define TERMCAP_STRING_BYTES 16384u
 
@@ -95,13 +110,13 @@ extern "C" {
  * proved (crates/demands/specs/RepairPromises.antt). */
 #define TERMCAP_REPAIR_RECORDS_BYTES(db_len) (8 * ((size_t)(db_len) + 1))
 
-/* The stack a call needs, in bytes: of termcap_show; of termcap_flag, termcap_number and
- * termcap_string; of termcap_list and termcap_flat; of termcap_batch; of termcap_repair; of
- * termcap_send and termcap_send_at. */
+/* The stack a call needs, in bytes, with one file or several: of termcap_show; of termcap_flag,
+ * termcap_number and termcap_string; of termcap_list and termcap_flat; of termcap_batch; of
+ * termcap_repair; of termcap_send and termcap_send_at. */
 #define TERMCAP_STACK_SHOW 5120u
-#define TERMCAP_STACK_QUESTION 7168u
-#define TERMCAP_STACK_LIST 11264u
-#define TERMCAP_STACK_BATCH 69632u
+#define TERMCAP_STACK_QUESTION 9216u
+#define TERMCAP_STACK_LIST 12288u
+#define TERMCAP_STACK_BATCH 71680u
 #define TERMCAP_STACK_REPAIR 155648u
 #define TERMCAP_STACK_SEND 4096u
 
@@ -112,33 +127,42 @@ extern "C" {
 
 /*
  * Show: the part of the database that holds the first description with that name, unjoined, from
- * just after the newline that ends the line before it (or from the start), up to but not including
- * its closing newline (or to the end). It looks at names only, not at fields or links.
+ * just after the newline that ends the line before it (or from its file's start), up to but not
+ * including its closing newline (or to its file's end). It looks at names only, not at fields or links.
  *
  * TERMCAP_OK: *start is the place of the part in `db`, *length its bytes.
- * Refusals: 1, 3, 4.
+ * Refusals: 1, 3, 4; with ends also 16.
  */
 uint32_t termcap_show(const uint8_t *db, size_t db_len, const uint8_t *name, size_t name_len,
                       uint64_t *start, uint64_t *length);
+uint32_t termcap_show_files(const uint8_t *db, size_t db_len, const size_t *ends, size_t ends_len,
+                            const uint8_t *name, size_t name_len, uint64_t *start,
+                            uint64_t *length);
 
 /*
  * Flag: whether the terminal has the flag.
  *
  * TERMCAP_OK: present, *value is 1. TERMCAP_ABSENT: not present.
- * Refusals: 1 to 8.
+ * Refusals: 1 to 8; with ends also 16.
  */
 uint32_t termcap_flag(const uint8_t *db, size_t db_len, const uint8_t *name, size_t name_len,
                       const uint8_t *id, size_t id_len, uint64_t *value);
+uint32_t termcap_flag_files(const uint8_t *db, size_t db_len, const size_t *ends, size_t ends_len,
+                            const uint8_t *name, size_t name_len, const uint8_t *id, size_t id_len,
+                            uint64_t *value);
 
 /*
  * Number: the terminal's number, at most 65,535. One that is written with two or more digits, the
  * first of them 0, is octal: li#030 is 24, and li#08 is malformed (6).
  *
  * TERMCAP_OK: present, *value is the number. TERMCAP_ABSENT: not present.
- * Refusals: 1 to 8.
+ * Refusals: 1 to 8; with ends also 16.
  */
 uint32_t termcap_number(const uint8_t *db, size_t db_len, const uint8_t *name, size_t name_len,
                         const uint8_t *id, size_t id_len, uint64_t *value);
+uint32_t termcap_number_files(const uint8_t *db, size_t db_len, const size_t *ends,
+                              size_t ends_len, const uint8_t *name, size_t name_len,
+                              const uint8_t *id, size_t id_len, uint64_t *value);
 
 /*
  * String: the terminal's string, decoded. Its padding prefix, if any, is still in front; the decoded
@@ -146,33 +170,45 @@ uint32_t termcap_number(const uint8_t *db, size_t db_len, const uint8_t *name, s
  *
  * TERMCAP_OK: present, the first *count bytes of `out` are the decoded bytes. TERMCAP_ABSENT: not
  * present, whatever the size of `out`.
- * Refusals: 1 to 9.
+ * Refusals: 1 to 9; with ends also 16.
  */
 uint32_t termcap_string(const uint8_t *db, size_t db_len, const uint8_t *name, size_t name_len,
                         const uint8_t *id, size_t id_len, uint8_t *out, size_t out_len,
                         uint64_t *count);
+uint32_t termcap_string_files(const uint8_t *db, size_t db_len, const size_t *ends,
+                              size_t ends_len, const uint8_t *name, size_t name_len,
+                              const uint8_t *id, size_t id_len, uint8_t *out, size_t out_len,
+                              uint64_t *count);
 
 /*
  * List: one record of TERMCAP_RECORD_BYTES for each live pair of name and kind, in the order of the
  * winning fields, without a header. A record is: two name bytes; kind; place of the description in
- * the chain from 0; a 32-bit value, high byte first (1, the number, or the decoded length).
+ * the chain from 0; a 32-bit value, high byte first (1, the number, or the decoded length); the number
+ * of the description's file from 0; three zeros.
  *
- * TERMCAP_OK: *records is the number of records, written to the first 8 * *records bytes of `out`.
- * Refusals: 1, 3 to 9.
+ * TERMCAP_OK: *records is the number of records, written to the first TERMCAP_RECORD_BYTES * *records
+ * bytes of `out`.
+ * Refusals: 1, 3 to 9; with ends also 16.
  */
 uint32_t termcap_list(const uint8_t *db, size_t db_len, const uint8_t *name, size_t name_len,
                       uint8_t *out, size_t out_len, uint64_t *records);
+uint32_t termcap_list_files(const uint8_t *db, size_t db_len, const size_t *ends, size_t ends_len,
+                            const uint8_t *name, size_t name_len, uint8_t *out, size_t out_len,
+                            uint64_t *records);
 
 /*
  * Flat: the resolved terminal as one line: the first line's names, a colon, then each winning field
- * as written (joined) with a colon, then a newline. As a database of its own it gives the same
+ * as written (joined) with a colon, then a newline. As a single file of its own it gives the same
  * answers.
  *
  * TERMCAP_OK: the first *count bytes of `out` are the line, its newline included.
- * Refusals: 1, 3 to 9.
+ * Refusals: 1, 3 to 9; with ends also 16.
  */
 uint32_t termcap_flat(const uint8_t *db, size_t db_len, const uint8_t *name, size_t name_len,
                       uint8_t *out, size_t out_len, uint64_t *count);
+uint32_t termcap_flat_files(const uint8_t *db, size_t db_len, const size_t *ends, size_t ends_len,
+                            const uint8_t *name, size_t name_len, uint8_t *out, size_t out_len,
+                            uint64_t *count);
 
 /*
  * Batch: any number of questions about one terminal, in one walk. `questions` has TERMCAP_QUESTION_BYTES
@@ -185,14 +221,17 @@ uint32_t termcap_flat(const uint8_t *db, size_t db_len, const uint8_t *name, siz
  *
  * TERMCAP_OK: *answers is the number of questions, and the first TERMCAP_ANSWER_BYTES * *answers bytes of
  * `out` are the answers.
- * Refusals: 1, 3, 15, 9, in this order; an unknown name is none.
+ * Refusals: 16, 1, 3, 15, 9, in this order; an unknown name is none.
  */
 uint32_t termcap_batch(const uint8_t *db, size_t db_len, const uint8_t *name, size_t name_len,
                        const uint8_t *questions, size_t questions_len, uint8_t *out, size_t out_len,
                        uint64_t *answers);
+uint32_t termcap_batch_files(const uint8_t *db, size_t db_len, const size_t *ends, size_t ends_len,
+                             const uint8_t *name, size_t name_len, const uint8_t *questions,
+                             size_t questions_len, uint8_t *out, size_t out_len, uint64_t *answers);
 
 /*
- * Repair: the database as it was edited by hand, mended, and a record for each thing removed: a line
+ * Repair: a single file as it was edited by hand, mended, and a record for each thing removed: a line
  * without a colon, a malformed field, a field after a line's first link, a link to a name that no line
  * has, and the link of the first line of each ring of links. A line that loses something is written
  * joined; every other line keeps all its bytes. Afterwards no name is refused with 5, 6 or 7; 8 may

@@ -6,7 +6,7 @@ use crate::properties;
 use crate::random::Random;
 use crate::reference::batch::ANSWER_BYTES;
 use crate::reference::repair::REMOVAL_BYTES;
-use crate::reference::{Position, RECORD_BYTES};
+use crate::reference::{Files, Position, RECORD_BYTES};
 use crate::repair_promises;
 use crate::subject::{Reference, Subject, ABSENT, ACCEPTED};
 
@@ -82,6 +82,8 @@ impl Operation {
 pub struct Case {
     pub operation: Operation,
     pub database: Vec<u8>,
+    /// Ends of several files; without them the one-file function is called.
+    pub ends: Option<Vec<usize>>,
     pub name: Vec<u8>,
     pub id: Vec<u8>,
     /// The questions of a batch, four bytes each.
@@ -100,6 +102,12 @@ pub struct Case {
     pub records_room: u64,
     /// Seed of what stands in the buffers, the guards and the numbers before the call.
     pub fill: u64,
+}
+
+impl Case {
+    pub fn files(&self) -> Files<'_> {
+        Files { bytes: &self.database, ends: self.ends.as_deref() }
+    }
 }
 
 /// What a call left behind: the result, the numbers and every byte of the buffers and their guards.
@@ -150,7 +158,7 @@ pub fn observe(case: &Case, subject: &impl Subject) -> Observed {
     let records_end = seen.records_block.len() - GUARD;
     let records = &mut seen.records_block[GUARD..records_end];
     let [first, second] = &mut seen.numbers;
-    let (database, name, id) = (&case.database[..], &case.name[..], &case.id[..]);
+    let (database, name, id) = (case.files(), &case.name[..], &case.id[..]);
     let position = Position { row: case.row, column: case.column, back: &case.back, up: &case.up };
     seen.code = match case.operation {
         Operation::Show => subject.show(database, name, first, second),
@@ -161,7 +169,7 @@ pub fn observe(case: &Case, subject: &impl Subject) -> Observed {
         Operation::Flat | Operation::Properties => subject.flat(database, name, out, first),
         Operation::Batch => subject.batch(database, name, &case.questions, out, first),
         Operation::Repair | Operation::RepairPromises => {
-            subject.repair(database, out, records, first, second)
+            subject.repair(&case.database, out, records, first, second)
         }
         Operation::Send => {
             subject.send(&case.command, case.lines, case.speed, case.pad, out, first)
@@ -329,6 +337,9 @@ impl fmt::Display for Case {
             writeln!(formatter, "    pad: {},", self.pad)?;
         } else {
             writeln!(formatter, "    database: {},", Bytes(&self.database))?;
+            if let Some(ends) = &self.ends {
+                writeln!(formatter, "    ends: Some(vec!{ends:?}),")?;
+            }
             if !self.operation.repairs() {
                 writeln!(formatter, "    name: {},", Bytes(&self.name))?;
             }

@@ -23,7 +23,7 @@ pub enum Expected {
     Value(u64),
     /// The bytes written, and their count.
     Bytes(Vec<u8>),
-    /// The bytes written, and a count of one for every eight.
+    /// The bytes written, and a count of one for every twelve.
     Records(Vec<u8>),
     /// Status, refusal number and value of each answer of a batch.
     Answers(Vec<(u8, u8, u32)>),
@@ -50,7 +50,7 @@ pub fn wrong(example: &Example, subject: &impl Subject) -> Option<String> {
         Shown { start, length } => (&[*start, *length], b""),
         Value(value) => (&[*value], b""),
         Bytes(bytes) => (&[bytes.len() as u64], bytes),
-        Records(bytes) => (&[bytes.len() as u64 / 8], bytes),
+        Records(bytes) => (&[bytes.len() as u64 / 12], bytes),
         Answers(each) => (&[each.len() as u64], &answers),
         Mended(text, removals) => (&[text.len() as u64, removals.len() as u64], text),
     };
@@ -91,6 +91,8 @@ pub fn all() -> Vec<Example> {
         raising(),
         padding(),
         order_of_send(),
+        several_files(),
+        ends_refused(),
         repairs(),
         repairs_of_links(),
         repairs_refused(),
@@ -149,6 +151,11 @@ fn repair(database: &[u8]) -> Case {
     Case { room: 60, records_room: 80, ..ask(Operation::Repair, database, b"") }
 }
 
+/// The same over files with these ends.
+fn with_ends(case: Case, ends: &[usize]) -> Case {
+    Case { ends: Some(ends.to_vec()), ..case }
+}
+
 fn mended(text: &[u8], removals: &[[u32; 4]]) -> Expected {
     Mended(text.to_vec(), removals.to_vec())
 }
@@ -203,18 +210,18 @@ NY|aaa-unk:co#80:li#48:cl=\\E[H:
 QZ|aaa-nam:am@:tc=aaa:
 ";
 
-const CASE_RECORDS: [u8; 24] = [
-    108, 105, 2, 1, 0, 0, 0, 30, //
-    99, 111, 2, 2, 0, 0, 0, 80, //
-    99, 108, 3, 2, 0, 0, 0, 3,
+const CASE_RECORDS: [u8; 36] = [
+    108, 105, 2, 1, 0, 0, 0, 30, 0, 0, 0, 0, //
+    99, 111, 2, 2, 0, 0, 0, 80, 0, 0, 0, 0, //
+    99, 108, 3, 2, 0, 0, 0, 3, 0, 0, 0, 0,
 ];
 
 const CASE_FLAT: &[u8] = b"QZ|aaa-nam:li#30:co#80:cl=\\E[H:\n";
 
-const ALONE_RECORDS: [u8; 24] = [
-    108, 105, 2, 0, 0, 0, 0, 30, //
-    99, 111, 2, 0, 0, 0, 0, 80, //
-    99, 108, 3, 0, 0, 0, 0, 3,
+const ALONE_RECORDS: [u8; 36] = [
+    108, 105, 2, 0, 0, 0, 0, 30, 0, 0, 0, 0, //
+    99, 111, 2, 0, 0, 0, 0, 80, 0, 0, 0, 0, //
+    99, 108, 3, 0, 0, 0, 0, 3, 0, 0, 0, 0,
 ];
 
 fn whole_case() -> Vec<Example> {
@@ -268,8 +275,8 @@ fn by_a_program() -> Vec<Example> {
         example("\\400", string(b"n:cl=\\400:", b"n", b"cl"), Refused(6)),
         example("string one short", short(string(CASE, b"aaa-nam", b"cl"), 2), Refused(9)),
         example("string fits", short(string(CASE, b"aaa-nam", b"cl"), 3), bytes(b"\x1b[H")),
-        example("list one short", short(list(CASE, b"aaa-nam"), 23), Refused(9)),
-        example("list fits", short(list(CASE, b"aaa-nam"), 24), Records(CASE_RECORDS.to_vec())),
+        example("list one short", short(list(CASE, b"aaa-nam"), 35), Refused(9)),
+        example("list fits", short(list(CASE, b"aaa-nam"), 36), Records(CASE_RECORDS.to_vec())),
         example("flat one short", short(flat(CASE, b"aaa-nam"), 31), Refused(9)),
         example("flat fits", short(flat(CASE, b"aaa-nam"), 32), bytes(CASE_FLAT)),
         example("send one short", short(send(b"5ab", 1, 9_600), 6), Refused(9)),
@@ -584,10 +591,10 @@ fn walk() -> Vec<Example> {
 fn lookup() -> Vec<Example> {
     let kinds = b"n:co=x:co#5:co:co#6:co@:co:tc=m:\nm:co#7:li#258:\n";
     let records = [
-        99, 111, 3, 0, 0, 0, 0, 1, //
-        99, 111, 2, 0, 0, 0, 0, 5, //
-        99, 111, 1, 0, 0, 0, 0, 1, //
-        108, 105, 2, 1, 0, 0, 1, 2,
+        99, 111, 3, 0, 0, 0, 0, 1, 0, 0, 0, 0, //
+        99, 111, 2, 0, 0, 0, 0, 5, 0, 0, 0, 0, //
+        99, 111, 1, 0, 0, 0, 0, 1, 0, 0, 0, 0, //
+        108, 105, 2, 1, 0, 0, 1, 2, 0, 0, 0, 0,
     ];
     let cancelled = b"n:co#5:tc=m:\nm:co@:tc=o:\no:co:co#7:\n";
     vec![
@@ -608,12 +615,12 @@ fn lookup() -> Vec<Example> {
         example(
             "a record has the value of octal digits",
             list(b"n:li#030:", b"n"),
-            Records(vec![108, 105, 2, 0, 0, 0, 0, 24]),
+            Records(vec![108, 105, 2, 0, 0, 0, 0, 24, 0, 0, 0, 0]),
         ),
         example(
             "place 31",
             list(&chain(32, "am:"), b"k0"),
-            Records(vec![97, 109, 1, 31, 0, 0, 0, 1]),
+            Records(vec![97, 109, 1, 31, 0, 0, 0, 1, 0, 0, 0, 0]),
         ),
     ]
 }
@@ -622,7 +629,8 @@ fn room() -> Vec<Example> {
     let flags = many_flags().take(5_460).collect::<Vec<_>>();
     assert_eq!(flags.len(), 5_460);
     let many = [b"n:".to_vec(), flags.join(&b':')].concat();
-    let records = flags.iter().flat_map(|id| [id[0], id[1], 1, 0, 0, 0, 0, 1]).collect();
+    let records =
+        flags.iter().flat_map(|id| [id[0], id[1], 1, 0, 0, 0, 0, 1, 0, 0, 0, 0]).collect();
     let with_room = |case: Case, room: u64| Case { room, ..case };
     vec![
         example(
@@ -637,8 +645,8 @@ fn room() -> Vec<Example> {
             with_room(list(b"n:am@:", b"n"), 0),
             Records(Vec::new()),
         ),
-        example("5,460 records", with_room(list(&many, b"n"), 43_680), Records(records)),
-        example("one byte short", with_room(list(&many, b"n"), 43_679), Refused(9)),
+        example("5,460 records", with_room(list(&many, b"n"), 65_520), Records(records)),
+        example("one byte short", with_room(list(&many, b"n"), 65_519), Refused(9)),
     ]
 }
 
@@ -910,6 +918,107 @@ fn repairs_of_links() -> Vec<Example> {
     ]
 }
 
+/// Ask 5. A private file links to the common one, in which `n` is another line.
+const TWO_FILES: &[u8] = b"n:am:tc=m:\nm:co#80:tc=n:\nn:li#24:\n";
+
+fn several_files() -> Vec<Example> {
+    let two = |case: Case| with_ends(case, &[11, 34]);
+    let records = [
+        97, 109, 1, 0, 0, 0, 0, 1, 0, 0, 0, 0, //
+        99, 111, 2, 1, 0, 0, 0, 80, 1, 0, 0, 0, //
+        108, 105, 2, 2, 0, 0, 0, 24, 1, 0, 0, 0,
+    ];
+    let joined: &[u8] = b"n:.x\\\nm:am:\n";
+    vec![
+        example(
+            "a link from its own file on",
+            two(list(TWO_FILES, b"n")),
+            Records(records.to_vec()),
+        ),
+        example("Flat over two files", two(flat(TWO_FILES, b"n")), bytes(b"n:am:co#80:li#24:\n")),
+        example("the same in one file", with_ends(list(TWO_FILES, b"n"), &[34]), Refused(7)),
+        example("the same without ends", list(TWO_FILES, b"n"), Refused(7)),
+        example(
+            "Show in the first file",
+            two(show(TWO_FILES, b"n")),
+            Shown { start: 0, length: 10 },
+        ),
+        example("Show in the second", two(show(TWO_FILES, b"m")), Shown { start: 11, length: 13 }),
+        example(
+            "no link to an earlier file",
+            with_ends(flag(b"p:am:\nn:tc=p:\n", b"n", b"am"), &[6, 14]),
+            Refused(5),
+        ),
+        example(
+            "the earlier file is asked",
+            with_ends(flag(b"p:am:\nn:tc=p:\n", b"p", b"am"), &[6, 14]),
+            Value(1),
+        ),
+        example(
+            "one place in two files",
+            with_ends(flag(b"n:tc=m:m:am:", b"n", b"am"), &[7, 12]),
+            Value(1),
+        ),
+        example(
+            "a self-link in the second file is not reached",
+            with_ends(flag(b"n:tc=n:n:tc=n:am:", b"n", b"am"), &[7, 17]),
+            Refused(7),
+        ),
+        example(
+            "a file's last backslash",
+            with_ends(show(joined, b"m"), &[5, 12]),
+            Shown { start: 6, length: 5 },
+        ),
+        example("joined in one file", show(joined, b"m"), Refused(4)),
+        example(
+            "a file's end ends a line",
+            with_ends(show(b"n:am:co:\n", b"n"), &[4, 9]),
+            Shown { start: 0, length: 4 },
+        ),
+        example(
+            "an empty file",
+            with_ends(show(b"m:\nn:am:\n", b"n"), &[3, 3, 9]),
+            Shown { start: 3, length: 5 },
+        ),
+        example(
+            "eight files",
+            with_ends(show(b"n:am:\n", b"n"), &[6; 8]),
+            Shown { start: 0, length: 5 },
+        ),
+        example(
+            "the eighth file",
+            with_ends(list(b"n:am:", b"n"), &[0, 0, 0, 0, 0, 0, 0, 5]),
+            Records(vec![97, 109, 1, 0, 0, 0, 0, 1, 7, 0, 0, 0]),
+        ),
+        example("no file", with_ends(show(b"n:am:\n", b"n"), &[]), Refused(4)),
+        example(
+            "bytes after the last end",
+            with_ends(show(b"n:am:\nm:am:\n", b"m"), &[6]),
+            Refused(4),
+        ),
+    ]
+}
+
+fn ends_refused() -> Vec<Example> {
+    let large = vec![b'\n'; 1_048_577];
+    vec![
+        example("ends that fall", with_ends(show(b"n:am:\n", b"n"), &[5, 4]), Refused(16)),
+        example("an end past the buffer", with_ends(show(b"n:am:\n", b"n"), &[7]), Refused(16)),
+        example("nine ends", with_ends(show(b"n:am:\n", b"n"), &[6; 9]), Refused(16)),
+        example("16 before 1", with_ends(show(b"n:am:\n", b""), &[7]), Refused(16)),
+        example("16 before 2", with_ends(flag(b"n:am:", b"n", b"a"), &[6]), Refused(16)),
+        example("16 before 3", with_ends(list(&large, b"n"), &[9, 8]), Refused(16)),
+        example("3 is for the whole buffer", with_ends(list(&large, b"n"), &[0]), Refused(3)),
+        example(
+            "16 of Flat before 9",
+            Case { room: 0, ..with_ends(flat(b"n:am:", b"n"), &[6]) },
+            Refused(16),
+        ),
+        example("16 of a string", with_ends(string(b"n:cl=:", b"n", b"cl"), &[7]), Refused(16)),
+        example("16 of a number", with_ends(number(b"n:co#1:", b"", b""), &[3, 2]), Refused(16)),
+    ]
+}
+
 fn repairs_refused() -> Vec<Example> {
     let (most, over) = (b"n:\n".repeat(4_096), b"n:\n".repeat(4_097));
     let large = vec![b'#'; 1_048_577];
@@ -1063,7 +1172,7 @@ mod tests {
     #[test]
     fn an_opened_reader_gives_equal_answers() {
         for Example { title, case, .. } in all() {
-            let (database, name, id) = (&case.database, &case.name, &case.id);
+            let (database, name, id) = (case.files(), &case.name, &case.id);
             let reader = reference::Reader::open(database);
             assert_eq!(reader.show(name), reference::show(database, name), "{title}");
             assert_eq!(reader.flag(name, id), reference::flag(database, name, id), "{title}");

@@ -11,6 +11,7 @@ use crate::reference::{self, Position};
 
 mod commands;
 mod databases;
+mod files;
 mod repairs;
 
 pub use databases::many_flags;
@@ -35,6 +36,7 @@ fn fill_in(random: &mut Random, operation: Operation) -> Case {
         repairs::fill_in(random, &mut case);
     } else {
         databases::fill_in(random, &mut case);
+        files::fill_in(random, &mut case);
     }
     if operation == Operation::Repair {
         rooms_of_repair(random, &mut case);
@@ -80,7 +82,7 @@ fn rooms_of_repair(random: &mut Random, case: &mut Case) {
 
 /// The bytes that a successful call would write.
 fn needed(case: &Case) -> Option<u64> {
-    let (database, name, id) = (&case.database, &case.name, &case.id);
+    let (database, name, id) = (case.files(), &case.name[..], &case.id[..]);
     let with_pads = |(body, pads): (Vec<u8>, u64)| body.len() as u64 + pads;
     match case.operation {
         Operation::String => {

@@ -2,7 +2,7 @@
 //!
 //! This file belongs to the program that is linked with the library, not to the crate.
 
-use termcap_tests::reference::Position;
+use termcap_tests::reference::{Files, Position};
 use termcap_tests::subject::Subject;
 
 extern "C" {
@@ -72,6 +72,86 @@ extern "C" {
         out_len: usize,
         answers: *mut u64,
     ) -> u32;
+    fn termcap_batch_files(
+        db: *const u8,
+        db_len: usize,
+        ends: *const usize,
+        ends_len: usize,
+        name: *const u8,
+        name_len: usize,
+        questions: *const u8,
+        questions_len: usize,
+        out: *mut u8,
+        out_len: usize,
+        answers: *mut u64,
+    ) -> u32;
+    fn termcap_show_files(
+        db: *const u8,
+        db_len: usize,
+        ends: *const usize,
+        ends_len: usize,
+        name: *const u8,
+        name_len: usize,
+        start: *mut u64,
+        length: *mut u64,
+    ) -> u32;
+    fn termcap_flag_files(
+        db: *const u8,
+        db_len: usize,
+        ends: *const usize,
+        ends_len: usize,
+        name: *const u8,
+        name_len: usize,
+        id: *const u8,
+        id_len: usize,
+        value: *mut u64,
+    ) -> u32;
+    fn termcap_number_files(
+        db: *const u8,
+        db_len: usize,
+        ends: *const usize,
+        ends_len: usize,
+        name: *const u8,
+        name_len: usize,
+        id: *const u8,
+        id_len: usize,
+        value: *mut u64,
+    ) -> u32;
+    fn termcap_string_files(
+        db: *const u8,
+        db_len: usize,
+        ends: *const usize,
+        ends_len: usize,
+        name: *const u8,
+        name_len: usize,
+        id: *const u8,
+        id_len: usize,
+        out: *mut u8,
+        out_len: usize,
+        count: *mut u64,
+    ) -> u32;
+    fn termcap_list_files(
+        db: *const u8,
+        db_len: usize,
+        ends: *const usize,
+        ends_len: usize,
+        name: *const u8,
+        name_len: usize,
+        out: *mut u8,
+        out_len: usize,
+        records: *mut u64,
+    ) -> u32;
+    fn termcap_flat_files(
+        db: *const u8,
+        db_len: usize,
+        ends: *const usize,
+        ends_len: usize,
+        name: *const u8,
+        name_len: usize,
+        out: *mut u8,
+        out_len: usize,
+        count: *mut u64,
+    ) -> u32;
     fn termcap_repair(
         db: *const u8,
         db_len: usize,
@@ -111,11 +191,11 @@ extern "C" {
 }
 
 /// The pointer to pass for a slice; for an empty one it dangles, but is never null.
-fn pointer(bytes: &[u8]) -> *const u8 {
-    if bytes.is_empty() {
+fn pointer<T>(slice: &[T]) -> *const T {
+    if slice.is_empty() {
         std::ptr::NonNull::dangling().as_ptr()
     } else {
-        bytes.as_ptr()
+        slice.as_ptr()
     }
 }
 
@@ -124,118 +204,214 @@ fn pointer(bytes: &[u8]) -> *const u8 {
 pub struct Library;
 
 impl Subject for Library {
-    fn show(&self, database: &[u8], name: &[u8], start: &mut u64, length: &mut u64) -> u32 {
+    fn show(&self, database: Files, name: &[u8], start: &mut u64, length: &mut u64) -> u32 {
+        let db = database.bytes;
         unsafe {
-            termcap_show(
-                pointer(database),
-                database.len(),
-                pointer(name),
-                name.len(),
-                start,
-                length,
-            )
+            match database.ends {
+                None => {
+                    termcap_show(pointer(db), db.len(), pointer(name), name.len(), start, length)
+                }
+                Some(ends) => termcap_show_files(
+                    pointer(db),
+                    db.len(),
+                    pointer(ends),
+                    ends.len(),
+                    pointer(name),
+                    name.len(),
+                    start,
+                    length,
+                ),
+            }
         }
     }
 
-    fn flag(&self, database: &[u8], name: &[u8], id: &[u8], value: &mut u64) -> u32 {
+    fn flag(&self, database: Files, name: &[u8], id: &[u8], value: &mut u64) -> u32 {
+        let db = database.bytes;
         unsafe {
-            termcap_flag(
-                pointer(database),
-                database.len(),
-                pointer(name),
-                name.len(),
-                pointer(id),
-                id.len(),
-                value,
-            )
+            match database.ends {
+                None => termcap_flag(
+                    pointer(db),
+                    db.len(),
+                    pointer(name),
+                    name.len(),
+                    pointer(id),
+                    id.len(),
+                    value,
+                ),
+                Some(ends) => termcap_flag_files(
+                    pointer(db),
+                    db.len(),
+                    pointer(ends),
+                    ends.len(),
+                    pointer(name),
+                    name.len(),
+                    pointer(id),
+                    id.len(),
+                    value,
+                ),
+            }
         }
     }
 
-    fn number(&self, database: &[u8], name: &[u8], id: &[u8], value: &mut u64) -> u32 {
+    fn number(&self, database: Files, name: &[u8], id: &[u8], value: &mut u64) -> u32 {
+        let db = database.bytes;
         unsafe {
-            termcap_number(
-                pointer(database),
-                database.len(),
-                pointer(name),
-                name.len(),
-                pointer(id),
-                id.len(),
-                value,
-            )
+            match database.ends {
+                None => termcap_number(
+                    pointer(db),
+                    db.len(),
+                    pointer(name),
+                    name.len(),
+                    pointer(id),
+                    id.len(),
+                    value,
+                ),
+                Some(ends) => termcap_number_files(
+                    pointer(db),
+                    db.len(),
+                    pointer(ends),
+                    ends.len(),
+                    pointer(name),
+                    name.len(),
+                    pointer(id),
+                    id.len(),
+                    value,
+                ),
+            }
         }
     }
 
     fn string(
         &self,
-        database: &[u8],
+        database: Files,
         name: &[u8],
         id: &[u8],
         out: &mut [u8],
         count: &mut u64,
     ) -> u32 {
+        let db = database.bytes;
         unsafe {
-            termcap_string(
-                pointer(database),
-                database.len(),
-                pointer(name),
-                name.len(),
-                pointer(id),
-                id.len(),
-                out.as_mut_ptr(),
-                out.len(),
-                count,
-            )
+            match database.ends {
+                None => termcap_string(
+                    pointer(db),
+                    db.len(),
+                    pointer(name),
+                    name.len(),
+                    pointer(id),
+                    id.len(),
+                    out.as_mut_ptr(),
+                    out.len(),
+                    count,
+                ),
+                Some(ends) => termcap_string_files(
+                    pointer(db),
+                    db.len(),
+                    pointer(ends),
+                    ends.len(),
+                    pointer(name),
+                    name.len(),
+                    pointer(id),
+                    id.len(),
+                    out.as_mut_ptr(),
+                    out.len(),
+                    count,
+                ),
+            }
         }
     }
 
-    fn list(&self, database: &[u8], name: &[u8], out: &mut [u8], records: &mut u64) -> u32 {
+    fn list(&self, database: Files, name: &[u8], out: &mut [u8], records: &mut u64) -> u32 {
+        let db = database.bytes;
         unsafe {
-            termcap_list(
-                pointer(database),
-                database.len(),
-                pointer(name),
-                name.len(),
-                out.as_mut_ptr(),
-                out.len(),
-                records,
-            )
+            match database.ends {
+                None => termcap_list(
+                    pointer(db),
+                    db.len(),
+                    pointer(name),
+                    name.len(),
+                    out.as_mut_ptr(),
+                    out.len(),
+                    records,
+                ),
+                Some(ends) => termcap_list_files(
+                    pointer(db),
+                    db.len(),
+                    pointer(ends),
+                    ends.len(),
+                    pointer(name),
+                    name.len(),
+                    out.as_mut_ptr(),
+                    out.len(),
+                    records,
+                ),
+            }
         }
     }
 
-    fn flat(&self, database: &[u8], name: &[u8], out: &mut [u8], count: &mut u64) -> u32 {
+    fn flat(&self, database: Files, name: &[u8], out: &mut [u8], count: &mut u64) -> u32 {
+        let db = database.bytes;
         unsafe {
-            termcap_flat(
-                pointer(database),
-                database.len(),
-                pointer(name),
-                name.len(),
-                out.as_mut_ptr(),
-                out.len(),
-                count,
-            )
+            match database.ends {
+                None => termcap_flat(
+                    pointer(db),
+                    db.len(),
+                    pointer(name),
+                    name.len(),
+                    out.as_mut_ptr(),
+                    out.len(),
+                    count,
+                ),
+                Some(ends) => termcap_flat_files(
+                    pointer(db),
+                    db.len(),
+                    pointer(ends),
+                    ends.len(),
+                    pointer(name),
+                    name.len(),
+                    out.as_mut_ptr(),
+                    out.len(),
+                    count,
+                ),
+            }
         }
     }
 
     fn batch(
         &self,
-        database: &[u8],
+        database: Files,
         name: &[u8],
         questions: &[u8],
         out: &mut [u8],
         answers: &mut u64,
     ) -> u32 {
+        let db = database.bytes;
         unsafe {
-            termcap_batch(
-                pointer(database),
-                database.len(),
-                pointer(name),
-                name.len(),
-                pointer(questions),
-                questions.len(),
-                out.as_mut_ptr(),
-                out.len(),
-                answers,
-            )
+            match database.ends {
+                None => termcap_batch(
+                    pointer(db),
+                    db.len(),
+                    pointer(name),
+                    name.len(),
+                    pointer(questions),
+                    questions.len(),
+                    out.as_mut_ptr(),
+                    out.len(),
+                    answers,
+                ),
+                Some(ends) => termcap_batch_files(
+                    pointer(db),
+                    db.len(),
+                    pointer(ends),
+                    ends.len(),
+                    pointer(name),
+                    name.len(),
+                    pointer(questions),
+                    questions.len(),
+                    out.as_mut_ptr(),
+                    out.len(),
+                    answers,
+                ),
+            }
         }
     }
 

@@ -8,7 +8,7 @@ use crate::generate;
 use crate::subject::{Reference, ABSENT, ACCEPTED};
 
 /// The results a reader wants to see, in this order: accepted, absent, the refusals.
-const CODES: [u32; 17] = [ACCEPTED, ABSENT, 1, 2, 3, 4, 5, 6, 7, 8, 9, 10, 11, 12, 13, 14, 15];
+const CODES: [u32; 18] = [ACCEPTED, ABSENT, 1, 2, 3, 4, 5, 6, 7, 8, 9, 10, 11, 12, 13, 14, 15, 16];
 
 pub struct Mix {
     counts: BTreeMap<(usize, u32), u64>,
@@ -82,15 +82,15 @@ mod tests {
     /// Every result an operation can give.
     fn possible(operation: Operation) -> &'static [u32] {
         match operation {
-            Operation::Show => &[ACCEPTED, 1, 3, 4],
-            Operation::Flag | Operation::Number => &[ACCEPTED, ABSENT, 1, 2, 3, 4, 5, 6, 7, 8],
-            Operation::String => &[ACCEPTED, ABSENT, 1, 2, 3, 4, 5, 6, 7, 8, 9],
-            Operation::List | Operation::Flat => &[ACCEPTED, 1, 3, 4, 5, 6, 7, 8, 9],
-            Operation::Batch => &[ACCEPTED, 1, 3, 9, 15],
+            Operation::Show => &[ACCEPTED, 1, 3, 4, 16],
+            Operation::Flag | Operation::Number => &[ACCEPTED, ABSENT, 1, 2, 3, 4, 5, 6, 7, 8, 16],
+            Operation::String => &[ACCEPTED, ABSENT, 1, 2, 3, 4, 5, 6, 7, 8, 9, 16],
+            Operation::List | Operation::Flat => &[ACCEPTED, 1, 3, 4, 5, 6, 7, 8, 9, 16],
+            Operation::Batch => &[ACCEPTED, 1, 3, 9, 15, 16],
             Operation::Repair => &[ACCEPTED, 3, 9, 14],
             Operation::Send => &[ACCEPTED, 9, 12, 13],
             Operation::SendAt => &[ACCEPTED, 9, 10, 11, 12, 13],
-            Operation::Properties => &[ACCEPTED, 1, 4, 5, 6, 7, 8],
+            Operation::Properties => &[ACCEPTED, 1, 4, 5, 6, 7, 8, 16],
             Operation::RepairPromises => &[ACCEPTED, 14],
         }
     }

@@ -9,7 +9,7 @@ use crate::reference;
 use crate::subject::{Subject, ABSENT, ACCEPTED};
 
 /// Room for every listing and every Flat that the limits of a chain allow.
-const LIST_ROOM: u64 = 44_000;
+const LIST_ROOM: u64 = 66_000;
 const FLAT_ROOM: u64 = 17_000;
 const RECORD: usize = reference::RECORD_BYTES;
 
@@ -26,8 +26,14 @@ struct Lent<'a, S> {
 }
 
 impl<'a, S: Subject> Lent<'a, S> {
-    fn new(case: &Case, database: Vec<u8>, subject: &'a S) -> Lent<'a, S> {
-        let case = Case { database, name: case.name.clone(), fill: case.fill, ..Case::default() };
+    fn new(
+        case: &Case,
+        database: Vec<u8>,
+        ends: Option<Vec<usize>>,
+        subject: &'a S,
+    ) -> Lent<'a, S> {
+        let (name, fill) = (case.name.clone(), case.fill);
+        let case = Case { database, ends, name, fill, ..Case::default() };
         Lent { case, subject }
     }
 
@@ -45,7 +51,7 @@ pub fn broken(case: &Case, subject: &impl Subject) -> Option<String> {
 }
 
 fn check(case: &Case, subject: &impl Subject) -> Result<(), String> {
-    let mut whole = Lent::new(case, case.database.clone(), subject);
+    let mut whole = Lent::new(case, case.database.clone(), case.ends.clone(), subject);
     let listing = whole.call(Operation::List, b"", LIST_ROOM);
     let flat = whole.call(Operation::Flat, b"", FLAT_ROOM);
     demand(listing.code == flat.code, || {
@@ -61,7 +67,7 @@ fn check(case: &Case, subject: &impl Subject) -> Result<(), String> {
 
     demand(flat.numbers[0] <= FLAT_ROOM, || format!("Flat reports {} bytes", flat.numbers[0]))?;
     let line = flat.reported(flat.numbers[0]).to_vec();
-    let mut alone = Lent::new(case, line.clone(), subject);
+    let mut alone = Lent::new(case, line.clone(), None, subject);
     check_alone(&mut alone, &records, &line)?;
     check_equal(case, &mut whole, &mut alone, &ids)
 }
@@ -98,7 +104,7 @@ fn read_records(listing: &Observed) -> Result<Vec<Record>, String> {
     let bytes = count.saturating_mul(RECORD as u64);
     demand(bytes <= LIST_ROOM, || format!("List reports {count} records"))?;
     let records = listing.reported(bytes).chunks_exact(RECORD);
-    Ok(records.map(|record| record.try_into().expect("a chunk of eight")).collect())
+    Ok(records.map(|record| record.try_into().expect("a chunk of one record")).collect())
 }
 
 /// Name and kind, with the value.
@@ -107,14 +113,16 @@ type Live = HashMap<([u8; 2], u8), u32>;
 /// Each pair once, with a known kind, in the order of the chain.
 fn check_records(records: &[Record]) -> Result<Live, String> {
     let mut live = Live::new();
-    let mut last_place = 0;
+    let (mut last_place, mut last_file) = (0, 0);
     for record in records {
-        let [first, second, kind, place, value @ ..] = *record;
-        let value = u32::from_be_bytes(value);
+        let [first, second, kind, place, v0, v1, v2, v3, file, zeros @ ..] = *record;
+        let value = u32::from_be_bytes([v0, v1, v2, v3]);
         demand((1..=3).contains(&kind), || format!("record {record:?} has no known kind"))?;
         demand(kind != 1 || value == 1, || format!("record {record:?} is a flag not of value 1"))?;
         demand(last_place <= place && place < 32, || format!("record {record:?} is misplaced"))?;
-        last_place = place;
+        demand(last_file <= file && file < 8, || format!("record {record:?} is of a wrong file"))?;
+        demand(zeros == [0; 3], || format!("record {record:?} doesn't end in three zeros"))?;
+        (last_place, last_file) = (place, file);
         let twice = live.insert(([first, second], kind), value).is_some();
         demand(!twice, || format!("record {record:?} names a pair listed before"))?;
     }
@@ -163,7 +171,7 @@ fn check_questions(
     Ok(())
 }
 
-/// "Listing Flat gives the same records with place 0; Flat of Flat gives the same bytes."
+/// "Listing Flat gives the same records with place 0", and "gives file 0"; "Flat of Flat gives the same bytes."
 fn check_alone(
     alone: &mut Lent<impl Subject>,
     records: &[Record],
@@ -210,13 +218,16 @@ fn check_equal<S: Subject>(
     demand(same, || "List with this room differs on Flat by more than places".into())
 }
 
-/// The whole block, guards too, with the places of the reported records set to 0.
+/// The whole block, guards too, with the places and files of the reported records set to 0.
 fn listing_without_places(seen: &Observed) -> Vec<u8> {
     let mut block = seen.block.clone();
     if seen.code == ACCEPTED {
         let bytes = seen.reported(seen.numbers[0].saturating_mul(RECORD as u64)).len();
         let out = &mut block[crate::case::GUARD..];
-        out[..bytes].chunks_exact_mut(RECORD).for_each(|record| record[3] = 0);
+        out[..bytes].chunks_exact_mut(RECORD).for_each(|record| {
+            record[3] = 0;
+            record[8] = 0;
+        });
     }
     block
 }
@@ -224,6 +235,7 @@ fn listing_without_places(seen: &Observed) -> Vec<u8> {
 fn without_place(record: &Record) -> Record {
     let mut record = *record;
     record[3] = 0;
+    record[8] = 0;
     record
 }
 

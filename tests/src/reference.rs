@@ -6,7 +6,11 @@
 //! silent. Every operation gives `Err` with the refusal number, or `Ok`; `Ok(None)` is "absent".
 
 pub mod batch;
+pub mod files;
 pub mod repair;
+
+pub use files::Files;
+use files::{find_from, Location};
 
 pub type Refusal = u8;
 
@@ -23,30 +27,32 @@ pub struct Part {
 
 /// Show: "the part of the caller's database that holds the first description with that name,
 /// unjoined". "It looks at names only, not at fields or links."
-pub fn show(database: &[u8], name: &[u8]) -> Result<Part, Refusal> {
+pub fn show(database: Files, name: &[u8]) -> Result<Part, Refusal> {
+    database.check_ends()?;
     check_name(name)?;
-    check_database(database)?;
-    let lines = logical_lines(database);
-    let place = find_line(&lines, name).ok_or(UNKNOWN_NAME)?;
-    let line = &lines[place];
-    Ok(Part { start: line.start, length: line.end - line.start })
+    check_database(database.bytes)?;
+    let files = database.lines();
+    let found = find_from(&files, 0, name).ok_or(UNKNOWN_NAME)?;
+    let file = &files[found.file];
+    let line = &file.lines[found.place];
+    Ok(Part { start: file.start + line.start, length: line.end - line.start })
 }
 
 /// Flag: "present with its value, or absent"; the value of a flag is 1, as in its record.
-pub fn flag(database: &[u8], name: &[u8], id: &[u8]) -> Result<Option<u64>, Refusal> {
+pub fn flag(database: Files, name: &[u8], id: &[u8]) -> Result<Option<u64>, Refusal> {
     let joined = chain_for_question(database, name, id)?;
     Ok(answer(&joined, id, Kind::FLAG).map(|_| 1))
 }
 
 /// Number: "present with its value, or absent".
-pub fn number(database: &[u8], name: &[u8], id: &[u8]) -> Result<Option<u64>, Refusal> {
+pub fn number(database: Files, name: &[u8], id: &[u8]) -> Result<Option<u64>, Refusal> {
     let joined = chain_for_question(database, name, id)?;
     Ok(answer(&joined, id, Kind::NUMBER).map(|place| u64::from(record_value(&joined[place]))))
 }
 
 /// String: "writes the decoded bytes and reports their count".
 pub fn string(
-    database: &[u8],
+    database: Files,
     name: &[u8],
     id: &[u8],
     out: &mut [u8],
@@ -59,7 +65,7 @@ pub fn string(
 }
 
 /// The bytes that String writes.
-pub fn string_bytes(database: &[u8], name: &[u8], id: &[u8]) -> Result<Option<Vec<u8>>, Refusal> {
+pub fn string_bytes(database: Files, name: &[u8], id: &[u8]) -> Result<Option<Vec<u8>>, Refusal> {
     let joined = chain_for_question(database, name, id)?;
     match answer(&joined, id, Kind::STRING) {
         None => Ok(None),
@@ -70,14 +76,14 @@ pub fn string_bytes(database: &[u8], name: &[u8], id: &[u8]) -> Result<Option<Ve
     }
 }
 
-/// List: "one 8-byte record for each live pair; reports the number of records".
-pub fn list(database: &[u8], name: &[u8], out: &mut [u8]) -> Result<usize, Refusal> {
+/// List: one record for each live pair, of 12 bytes by Ask 5; "reports the number of records".
+pub fn list(database: Files, name: &[u8], out: &mut [u8]) -> Result<usize, Refusal> {
     let records = list_bytes(database, name)?;
     write(&records, out).map(|bytes| bytes / RECORD_BYTES)
 }
 
 /// Flat: "the resolved terminal as one line; reports its bytes".
-pub fn flat(database: &[u8], name: &[u8], out: &mut [u8]) -> Result<usize, Refusal> {
+pub fn flat(database: Files, name: &[u8], out: &mut [u8]) -> Result<usize, Refusal> {
     let line = flat_bytes(database, name)?;
     write(&line, out)
 }
@@ -143,11 +149,11 @@ pub fn send_at_parts(
 /// "An opened reader keeps the database it was opened on and serves Show, Flag and Number from it
 /// with equal answers and refusals; opening itself refuses nothing."
 pub struct Reader<'a> {
-    database: &'a [u8],
+    database: Files<'a>,
 }
 
 impl<'a> Reader<'a> {
-    pub fn open(database: &'a [u8]) -> Reader<'a> {
+    pub fn open(database: Files<'a>) -> Reader<'a> {
         Reader { database }
     }
 
@@ -221,48 +227,54 @@ fn check_database(database: &[u8]) -> Result<(), Refusal> {
     require(database.len() <= MAX_DATABASE, DATABASE_TOO_LARGE)
 }
 
-/// "Order: 1, 2, 3, then the walk, then 9." For List and Flat, which take no id.
-fn chain_for_name(database: &[u8], name: &[u8]) -> Result<Vec<Description>, Refusal> {
+/// "Order: 1, 2, 3, then the walk, then 9", and 16 "before all others". For List and Flat, which take
+/// no id. "Limit 3 is for all of [the buffer]."
+fn chain_for_name(database: Files, name: &[u8]) -> Result<Vec<Description>, Refusal> {
+    database.check_ends()?;
     check_name(name)?;
-    check_database(database)?;
+    check_database(database.bytes)?;
     walk(database, name)
 }
 
 /// "Order: 1, 2, 3, then the walk, then 9." For the questions, which take an id.
 fn chain_for_question(
-    database: &[u8],
+    database: Files,
     name: &[u8],
     id: &[u8],
 ) -> Result<Vec<JoinedField>, Refusal> {
+    database.check_ends()?;
     check_name(name)?;
     check_id(id)?;
-    check_database(database)?;
+    check_database(database.bytes)?;
     Ok(join_fields(&walk(database, name)?))
 }
 
 /// "At each step of the walk: find the line (4 for the first, else 5), then 7, then 33rd (8), then
 /// 6, then size (8), then the next link."
-fn walk(database: &[u8], name: &[u8]) -> Result<Vec<Description>, Refusal> {
-    let lines = logical_lines(database);
-    let mut places: Vec<usize> = Vec::new();
+fn walk(database: Files, name: &[u8]) -> Result<Vec<Description>, Refusal> {
+    let files = database.lines();
+    let mut places: Vec<Location> = Vec::new();
     let mut chain: Vec<Description> = Vec::new();
     let mut chain_size = 0;
     let mut wanted = name.to_vec();
+    let mut first_file = 0;
     loop {
-        let found = find_line(&lines, &wanted);
+        let found = find_from(&files, first_file, &wanted);
         let place = match found {
             Some(place) => place,
             None if chain.is_empty() => return Err(UNKNOWN_NAME),
             None => return Err(LINK_NOWHERE),
         };
-        // "Only the line counts; a name may be shadowed" (slips we have seen).
+        // "Only the line counts; a name may be shadowed" (slips we have seen); it is known by file and
+        // place.
         if places.contains(&place) {
             return Err(LINK_INTO_CHAIN);
         }
         if chain.len() == MAX_DESCRIPTIONS {
             return Err(CHAIN_TOO_LARGE);
         }
-        let description = read_description(&lines[place].joined)?;
+        let mut description = read_description(&files[place.file].lines[place.place].joined)?;
+        description.file = place.file as u8;
         chain_size += description.size();
         if chain_size > MAX_CHAIN_SIZE {
             return Err(CHAIN_TOO_LARGE);
@@ -271,7 +283,7 @@ fn walk(database: &[u8], name: &[u8]) -> Result<Vec<Description>, Refusal> {
         places.push(place);
         chain.push(description);
         match link {
-            Some(link) => wanted = link,
+            Some(link) => (wanted, first_file) = (link, place.file),
             None => return Ok(chain),
         }
     }
@@ -352,8 +364,9 @@ fn find_line(lines: &[Line], name: &[u8]) -> Option<usize> {
 // Fields
 // ---------------------------------------------------------------------------------------------
 
-/// A description that isn't malformed: its names, and its fields in order.
+/// A description that isn't malformed: the number of its file, its names, and its fields in order.
 struct Description {
+    file: u8,
     names: Vec<u8>,
     fields: Vec<Field>,
 }
@@ -422,7 +435,7 @@ fn read_description(joined: &[u8]) -> Result<Description, Refusal> {
         linked = linked || matches!(meaning, Meaning::Link(_));
         fields.push(Field { written: text.to_vec(), meaning });
     }
-    Ok(Description { names: names.to_vec(), fields })
+    Ok(Description { file: 0, names: names.to_vec(), fields })
 }
 
 fn read_field(text: &[u8]) -> Result<Meaning, Refusal> {
@@ -553,6 +566,7 @@ fn kind_of(value: &Value) -> Option<Kind> {
 /// A capability or cancel of the chain, with the "place of the description in the chain from 0".
 struct JoinedField {
     place: u8,
+    file: u8,
     written: Vec<u8>,
     capability: Capability,
 }
@@ -565,6 +579,7 @@ fn join_fields(chain: &[Description]) -> Vec<JoinedField> {
             if let Meaning::Capability(capability) = &field.meaning {
                 joined.push(JoinedField {
                     place: place as u8,
+                    file: description.file,
                     written: field.written.clone(),
                     capability: capability.clone(),
                 });
@@ -604,7 +619,7 @@ fn winning_fields(joined: &[JoinedField]) -> Vec<&JoinedField> {
     winning
 }
 
-pub const RECORD_BYTES: usize = 8;
+pub const RECORD_BYTES: usize = 12;
 
 /// "1, the number, or the decoded length".
 fn record_value(field: &JoinedField) -> u32 {
@@ -617,8 +632,9 @@ fn record_value(field: &JoinedField) -> u32 {
 }
 
 /// "A record is: two name bytes; kind; place of the description in the chain from 0; a 32-bit
-/// value, high byte first. Records stand in the order of the winning fields. No header."
-pub fn list_bytes(database: &[u8], name: &[u8]) -> Result<Vec<u8>, Refusal> {
+/// value, high byte first. Records stand in the order of the winning fields. No header." Ask 5: "12
+/// bytes, with the file number from 0 and three zeros at the end".
+pub fn list_bytes(database: Files, name: &[u8]) -> Result<Vec<u8>, Refusal> {
     let joined = join_fields(&chain_for_name(database, name)?);
     let mut records = Vec::new();
     for field in winning_fields(&joined) {
@@ -627,13 +643,14 @@ pub fn list_bytes(database: &[u8], name: &[u8]) -> Result<Vec<u8>, Refusal> {
         records.push(kind.0);
         records.push(field.place);
         records.extend_from_slice(&record_value(field).to_be_bytes());
+        records.extend_from_slice(&[field.file, 0, 0, 0]);
     }
     Ok(records)
 }
 
 /// "Flat is the first line's names, a colon, then each winning field as written (joined) with a
 /// colon, then a newline."
-pub fn flat_bytes(database: &[u8], name: &[u8]) -> Result<Vec<u8>, Refusal> {
+pub fn flat_bytes(database: Files, name: &[u8]) -> Result<Vec<u8>, Refusal> {
     let chain = chain_for_name(database, name)?;
     let joined = join_fields(&chain);
     let mut line = chain[0].names.clone();

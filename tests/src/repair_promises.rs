@@ -3,6 +3,7 @@
 
 use crate::case::{observe, Case, Observed, Operation};
 use crate::reference::repair::{is_sound, REMOVAL_BYTES};
+use crate::reference::Files;
 use crate::subject::{Subject, ACCEPTED};
 
 /// Names asked about in one case.
@@ -80,7 +81,7 @@ fn check_records(seen: &Observed) -> Result<(), String> {
 fn check_names(mended: &[u8], subject: &impl Subject) -> Result<(), String> {
     let separators = |byte: &u8| matches!(byte, b'\n' | b':' | b'|' | b'=');
     for name in mended.split(separators).filter(|name| !name.is_empty()).take(MOST_NAMES) {
-        let code = subject.flag(mended, name, b"am", &mut 0);
+        let code = subject.flag(Files::alone(mended), name, b"am", &mut 0);
         demand(!NEVER_AFTERWARDS.contains(&code), || {
             format!("asked for \"{}\" the mended database gives {code}", name.escape_ascii())
         })?;

@@ -45,6 +45,7 @@ pub fn shrink(case: &Case, time: Duration, fails: impl Fn(&Case) -> bool) -> Cas
         for number in NUMBERS {
             shrinking.lower(number);
         }
+        shrinking.drop_ends();
         for bytes in BYTES {
             shrinking.make_plain(bytes);
         }
@@ -68,6 +69,22 @@ impl<F: Fn(&Case) -> bool> Shrinking<F> {
             self.case = changed;
         }
         keep
+    }
+
+    /// One file instead of several, or fewer and lower ends.
+    fn drop_ends(&mut self) {
+        if self.attempt(|case| case.ends = None) {
+            return;
+        }
+        let count = self.case.ends.as_ref().map_or(0, Vec::len);
+        for place in (0..count).rev() {
+            let removed = self.attempt(|case| {
+                case.ends.as_mut().map(|ends| ends.remove(place));
+            });
+            if !removed {
+                self.attempt(|case| case.ends.as_mut().expect("they are given")[place] /= 2);
+            }
+        }
     }
 
     fn drop_lines(&mut self, bytes: fn(&mut Case) -> &mut Vec<u8>) {

@@ -3,28 +3,28 @@
 //!
 //! Each gives the result code: 0 accepted or present, 255 absent, otherwise the refusal number.
 
-use crate::reference::{self, Position, Refusal};
+use crate::reference::{self, Files, Position, Refusal};
 
 pub const ACCEPTED: u32 = 0;
 pub const ABSENT: u32 = 255;
 
 pub trait Subject {
-    fn show(&self, database: &[u8], name: &[u8], start: &mut u64, length: &mut u64) -> u32;
-    fn flag(&self, database: &[u8], name: &[u8], id: &[u8], value: &mut u64) -> u32;
-    fn number(&self, database: &[u8], name: &[u8], id: &[u8], value: &mut u64) -> u32;
+    fn show(&self, database: Files, name: &[u8], start: &mut u64, length: &mut u64) -> u32;
+    fn flag(&self, database: Files, name: &[u8], id: &[u8], value: &mut u64) -> u32;
+    fn number(&self, database: Files, name: &[u8], id: &[u8], value: &mut u64) -> u32;
     fn string(
         &self,
-        database: &[u8],
+        database: Files,
         name: &[u8],
         id: &[u8],
         out: &mut [u8],
         count: &mut u64,
     ) -> u32;
-    fn list(&self, database: &[u8], name: &[u8], out: &mut [u8], records: &mut u64) -> u32;
-    fn flat(&self, database: &[u8], name: &[u8], out: &mut [u8], count: &mut u64) -> u32;
+    fn list(&self, database: Files, name: &[u8], out: &mut [u8], records: &mut u64) -> u32;
+    fn flat(&self, database: Files, name: &[u8], out: &mut [u8], count: &mut u64) -> u32;
     fn batch(
         &self,
-        database: &[u8],
+        database: Files,
         name: &[u8],
         questions: &[u8],
         out: &mut [u8],
@@ -87,7 +87,7 @@ fn present(result: Result<Option<u64>, Refusal>, number: &mut u64) -> u32 {
 }
 
 impl Subject for Reference {
-    fn show(&self, database: &[u8], name: &[u8], start: &mut u64, length: &mut u64) -> u32 {
+    fn show(&self, database: Files, name: &[u8], start: &mut u64, length: &mut u64) -> u32 {
         match reference::show(database, name) {
             Ok(part) => {
                 *start = part.start as u64;
@@ -98,17 +98,17 @@ impl Subject for Reference {
         }
     }
 
-    fn flag(&self, database: &[u8], name: &[u8], id: &[u8], value: &mut u64) -> u32 {
+    fn flag(&self, database: Files, name: &[u8], id: &[u8], value: &mut u64) -> u32 {
         present(reference::flag(database, name, id), value)
     }
 
-    fn number(&self, database: &[u8], name: &[u8], id: &[u8], value: &mut u64) -> u32 {
+    fn number(&self, database: Files, name: &[u8], id: &[u8], value: &mut u64) -> u32 {
         present(reference::number(database, name, id), value)
     }
 
     fn string(
         &self,
-        database: &[u8],
+        database: Files,
         name: &[u8],
         id: &[u8],
         out: &mut [u8],
@@ -118,17 +118,17 @@ impl Subject for Reference {
         present(result.map(|found| found.map(|bytes| bytes as u64)), count)
     }
 
-    fn list(&self, database: &[u8], name: &[u8], out: &mut [u8], records: &mut u64) -> u32 {
+    fn list(&self, database: Files, name: &[u8], out: &mut [u8], records: &mut u64) -> u32 {
         accepted(reference::list(database, name, out), records)
     }
 
-    fn flat(&self, database: &[u8], name: &[u8], out: &mut [u8], count: &mut u64) -> u32 {
+    fn flat(&self, database: Files, name: &[u8], out: &mut [u8], count: &mut u64) -> u32 {
         accepted(reference::flat(database, name, out), count)
     }
 
     fn batch(
         &self,
-        database: &[u8],
+        database: Files,
         name: &[u8],
         questions: &[u8],
         out: &mut [u8],

@@ -1,7 +1,7 @@
 //! For tests: the reference, with its answers spoiled on the way out.
 
 use crate::case::Operation;
-use crate::reference::Position;
+use crate::reference::{Files, Position};
 use crate::subject::{Reference, Subject};
 
 /// What the reference answered. For Show the number is the length.
@@ -16,24 +16,24 @@ pub struct Answer<'a> {
 pub struct Twisted<F: Fn(Answer) -> u32>(pub F);
 
 impl<F: Fn(Answer) -> u32> Subject for Twisted<F> {
-    fn show(&self, database: &[u8], name: &[u8], start: &mut u64, length: &mut u64) -> u32 {
+    fn show(&self, database: Files, name: &[u8], start: &mut u64, length: &mut u64) -> u32 {
         let code = Reference.show(database, name, start, length);
         (self.0)(Answer { operation: Operation::Show, code, number: length, out: &mut [] })
     }
 
-    fn flag(&self, database: &[u8], name: &[u8], id: &[u8], value: &mut u64) -> u32 {
+    fn flag(&self, database: Files, name: &[u8], id: &[u8], value: &mut u64) -> u32 {
         let code = Reference.flag(database, name, id, value);
         (self.0)(Answer { operation: Operation::Flag, code, number: value, out: &mut [] })
     }
 
-    fn number(&self, database: &[u8], name: &[u8], id: &[u8], value: &mut u64) -> u32 {
+    fn number(&self, database: Files, name: &[u8], id: &[u8], value: &mut u64) -> u32 {
         let code = Reference.number(database, name, id, value);
         (self.0)(Answer { operation: Operation::Number, code, number: value, out: &mut [] })
     }
 
     fn string(
         &self,
-        database: &[u8],
+        database: Files,
         name: &[u8],
         id: &[u8],
         out: &mut [u8],
@@ -43,19 +43,19 @@ impl<F: Fn(Answer) -> u32> Subject for Twisted<F> {
         (self.0)(Answer { operation: Operation::String, code, number: count, out })
     }
 
-    fn list(&self, database: &[u8], name: &[u8], out: &mut [u8], records: &mut u64) -> u32 {
+    fn list(&self, database: Files, name: &[u8], out: &mut [u8], records: &mut u64) -> u32 {
         let code = Reference.list(database, name, out, records);
         (self.0)(Answer { operation: Operation::List, code, number: records, out })
     }
 
-    fn flat(&self, database: &[u8], name: &[u8], out: &mut [u8], count: &mut u64) -> u32 {
+    fn flat(&self, database: Files, name: &[u8], out: &mut [u8], count: &mut u64) -> u32 {
         let code = Reference.flat(database, name, out, count);
         (self.0)(Answer { operation: Operation::Flat, code, number: count, out })
     }
 
     fn batch(
         &self,
-        database: &[u8],
+        database: Files,
         name: &[u8],
         questions: &[u8],
         out: &mut [u8],

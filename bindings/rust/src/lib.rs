@@ -21,6 +21,9 @@
 //! # }
 //! ```
 //!
+//! A private file goes before the common one: [`Files`] joins them, and [`Database::with_ends`] takes
+//! them as they stand in one buffer.
+//!
 //! A function that returns a `Vec` never refuses with [`Refusal::NoRoom`]. Its twin in `_into`
 //! writes to a buffer of the caller, allocates nothing, and leaves every byte of that buffer past
 //! those it reports as it was; on a refusal, and where a string is absent, it leaves the whole
@@ -38,15 +41,16 @@
 //! | Functions | Bytes at most |
 //! |---|---|
 //! | [`Database::show`] | 5,120 |
-//! | [`Database::flag`], [`Database::number`], [`Database::string`] | 7,168 |
-//! | [`Database::list`], [`Database::flat`] | 11,264 |
-//! | [`Database::batch`] | 69,632 |
+//! | [`Database::flag`], [`Database::number`], [`Database::string`] | 9,216 |
+//! | [`Database::list`], [`Database::flat`] | 12,288 |
+//! | [`Database::batch`] | 71,680 |
 //! | [`Database::repair`] | 155,648 |
 //! | [`send`], [`send_at`] | 4,096 |
 
 #![deny(missing_docs)]
 #![deny(unsafe_code)]
 
+mod files;
 mod question;
 mod record;
 mod refusal;
@@ -54,18 +58,21 @@ mod removal;
 #[allow(unsafe_code)]
 mod sys;
 
+pub use files::Files;
 pub use question::{Answered, Question};
 pub use record::{Kind, Record};
 pub use refusal::{NotARefusal, Refusal};
 pub use removal::{Reason, Removal, Repair};
 
 /// The most bytes a decoded string has: it is no longer than its field, and a chain's size is at
-/// most 16,384. This and the next three are proved (`crates/demands/specs/Room.antt`).
+/// most 16,384. This, the records, Flat and the pads are proved (`crates/demands/specs/Room.antt`).
 pub const STRING_BYTES: usize = 16_384;
 /// The most records a terminal has: flags, three bytes each with the colon, in a chain of 16,384.
 pub const RECORDS: usize = 5_460;
 /// The most bytes Flat has: a chain's size and a newline.
 pub const FLAT_BYTES: usize = 16_385;
+/// The most files in one database.
+pub const FILES: usize = 8;
 /// The most pads a command asks for: `9999.9*`, 1,000 lines, 115,200 bits a second.
 pub const PADS: usize = 115_198_848;
 
@@ -92,20 +99,46 @@ fn size(count: u64) -> usize {
     usize::try_from(count).expect("the library reports no more bytes than it was lent")
 }
 
-/// A termcap database: the bytes of a file, lent by the caller.
+/// A termcap database: the bytes of a file, or of several, lent by the caller.
 ///
 /// Nothing is read ahead; every question is answered from the bytes themselves. The methods take
 /// names and ids as anything that gives bytes, such as `"vt100"`, `b"vt100"` or a `Vec<u8>`.
 #[derive(Clone, Copy, Debug)]
 pub struct Database<'a> {
     bytes: &'a [u8],
+    /// `None` for a single file that fills the bytes.
+    ends: Option<&'a [usize]>,
 }
 
 impl<'a> Database<'a> {
-    /// A view of these bytes. Nothing is refused here; a database that is too large, or damaged
-    /// where a question leads, is refused with that question.
+    /// A view of these bytes, a single file. Nothing is refused here; a database that is too large,
+    /// or damaged where a question leads, is refused with that question.
     pub fn new(bytes: &'a [u8]) -> Database<'a> {
-        Database { bytes }
+        Database { bytes, ends: None }
+    }
+
+    /// A view of up to [`FILES`] files that stand one after the other in these bytes, by the place
+    /// where each of them ends. Bytes after the last end are not read. A name is searched from the
+    /// first file on, and the name of a link from its own file on. Ends that fall or pass the bytes,
+    /// or too many of them, are refused with each question. [`Files`] joins files that are apart.
+    ///
+    /// ```
+    /// # use termcap_proved::{Database, Refusal};
+    /// let bytes = b"oven:li#4:tc=hall:\nhall:co#20:\n";
+    /// assert_eq!(Database::with_ends(bytes, &[19, 31]).number("oven", "co"), Ok(Some(20)));
+    /// assert_eq!(Database::with_ends(bytes, &[19]).number("oven", "co"), Err(Refusal::LostLink));
+    /// assert_eq!(Database::with_ends(bytes, &[19, 9]).show("oven"), Err(Refusal::BadEnds));
+    /// ```
+    pub fn with_ends(bytes: &'a [u8], ends: &'a [usize]) -> Database<'a> {
+        Database { bytes, ends: Some(ends) }
+    }
+
+    /// Calls with the ends: those given, or the one of a single file.
+    fn ask<T>(&self, call: impl FnOnce(&[u8], &[usize]) -> T) -> T {
+        match self.ends {
+            Some(ends) => call(self.bytes, ends),
+            None => call(self.bytes, &[self.bytes.len()]),
+        }
     }
 
     /// The lent bytes.
@@ -123,7 +156,8 @@ impl<'a> Database<'a> {
     /// ```
     pub fn show(&self, name: impl AsRef<[u8]>) -> Result<&'a [u8], Refusal> {
         let (mut start, mut length) = (0, 0);
-        let result = sys::show(self.bytes, name.as_ref(), &mut start, &mut length);
+        let result =
+            self.ask(|db, ends| sys::show(db, ends, name.as_ref(), &mut start, &mut length));
         accepted(result, ())?;
         let start = size(start);
         Ok(&self.bytes[start..start + size(length)])
@@ -140,7 +174,8 @@ impl<'a> Database<'a> {
     /// ```
     pub fn flag(&self, name: impl AsRef<[u8]>, id: impl AsRef<[u8]>) -> Result<bool, Refusal> {
         let mut value = 0;
-        let result = sys::flag(self.bytes, name.as_ref(), id.as_ref(), &mut value);
+        let result =
+            self.ask(|db, ends| sys::flag(db, ends, name.as_ref(), id.as_ref(), &mut value));
         Ok(present(result, value)?.is_some())
     }
 
@@ -160,7 +195,8 @@ impl<'a> Database<'a> {
         id: impl AsRef<[u8]>,
     ) -> Result<Option<u32>, Refusal> {
         let mut value = 0;
-        let result = sys::number(self.bytes, name.as_ref(), id.as_ref(), &mut value);
+        let result =
+            self.ask(|db, ends| sys::number(db, ends, name.as_ref(), id.as_ref(), &mut value));
         let number = present(result, value)?;
         Ok(number.map(|value| u32::try_from(value).expect("a number is at most 65,535")))
     }
@@ -207,7 +243,8 @@ impl<'a> Database<'a> {
         out: &mut [u8],
     ) -> Result<Option<usize>, Refusal> {
         let mut count = 0;
-        let result = sys::string(self.bytes, name.as_ref(), id.as_ref(), out, &mut count);
+        let result =
+            self.ask(|db, ends| sys::string(db, ends, name.as_ref(), id.as_ref(), out, &mut count));
         Ok(present(result, count)?.map(size))
     }
 
@@ -216,8 +253,8 @@ impl<'a> Database<'a> {
     /// ```
     /// # use termcap_proved::{Database, Kind, Record};
     /// let database = Database::new(b"kiln:am:tc=oven:\noven:co#20:\n");
-    /// let am = Record { name: *b"am", kind: Kind::Flag, place: 0, value: 1 };
-    /// let co = Record { name: *b"co", kind: Kind::Number, place: 1, value: 20 };
+    /// let am = Record { name: *b"am", kind: Kind::Flag, place: 0, value: 1, file: 0 };
+    /// let co = Record { name: *b"co", kind: Kind::Number, place: 1, value: 20, file: 0 };
     /// assert_eq!(database.list("kiln"), Ok(vec![am, co]));
     /// ```
     pub fn list(&self, name: impl AsRef<[u8]>) -> Result<Vec<Record>, Refusal> {
@@ -236,13 +273,13 @@ impl<'a> Database<'a> {
     /// ```
     /// # use termcap_proved::Database;
     /// let database = Database::new(b"oven:co#300:\n");
-    /// let mut out = [0; 8];
+    /// let mut out = [255; 12];
     /// assert_eq!(database.list_into("oven", &mut out), Ok(1));
-    /// assert_eq!(out, [b'c', b'o', 2, 0, 0, 0, 1, 44]);
+    /// assert_eq!(out, [b'c', b'o', 2, 0, 0, 0, 1, 44, 0, 0, 0, 0]);
     /// ```
     pub fn list_into(&self, name: impl AsRef<[u8]>, out: &mut [u8]) -> Result<usize, Refusal> {
         let mut records = 0;
-        let result = sys::list(self.bytes, name.as_ref(), out, &mut records);
+        let result = self.ask(|db, ends| sys::list(db, ends, name.as_ref(), out, &mut records));
         accepted(result, ())?;
         Ok(size(records))
     }
@@ -267,7 +304,7 @@ impl<'a> Database<'a> {
     /// included. [`FLAT_BYTES`] are always enough.
     pub fn flat_into(&self, name: impl AsRef<[u8]>, out: &mut [u8]) -> Result<usize, Refusal> {
         let mut count = 0;
-        let result = sys::flat(self.bytes, name.as_ref(), out, &mut count);
+        let result = self.ask(|db, ends| sys::flat(db, ends, name.as_ref(), out, &mut count));
         accepted(result, ())?;
         Ok(size(count))
     }
@@ -331,13 +368,15 @@ impl Database<'_> {
         out: &mut [u8],
     ) -> Result<usize, Refusal> {
         let mut answers = 0;
-        let result = sys::batch(self.bytes, name.as_ref(), questions, out, &mut answers);
+        let result =
+            self.ask(|db, ends| sys::batch(db, ends, name.as_ref(), questions, out, &mut answers));
         accepted(result, ())?;
         Ok(size(answers))
     }
 }
 
-/// Repair: a database as sites have edited it, mended.
+/// Repair: a file as sites have edited it, mended. The bytes are taken as a single file, whatever
+/// ends were given with them; of several files each is mended by itself.
 impl Database<'_> {
     /// The mended database, in which no name is refused with [`Refusal::LostLink`],
     /// [`Refusal::Malformed`] or [`Refusal::Cycle`], and what was removed for that: lines without a

@@ -33,21 +33,24 @@ pub struct Record {
     pub place: u8,
     /// 1 for a flag, the number, or the length of the decoded string.
     pub value: u32,
+    /// The number of that description's file, from 0.
+    pub file: u8,
 }
 
 impl Record {
     /// The number of bytes of a record in a lent buffer.
-    pub const BYTES: usize = 8;
+    pub const BYTES: usize = 12;
 
     /// Reads a record from the bytes that [`Database::list_into`](crate::Database::list_into)
     /// writes. `None` if the third byte is no kind.
     pub fn from_bytes(bytes: [u8; Record::BYTES]) -> Option<Record> {
-        let [first, second, kind, place, value @ ..] = bytes;
+        let [first, second, kind, place, v0, v1, v2, v3, file, _, _, _] = bytes;
         Some(Record {
             name: [first, second],
             kind: Kind::from_number(kind)?,
             place,
-            value: u32::from_be_bytes(value),
+            value: u32::from_be_bytes([v0, v1, v2, v3]),
+            file,
         })
     }
 }

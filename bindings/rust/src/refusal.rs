@@ -37,10 +37,12 @@ pub enum Refusal {
     TooManyLines = 14,
     /// A batch's questions are not a multiple of four bytes.
     PartialQuestion = 15,
+    /// Ends that fall or pass the buffer, or over eight of them.
+    BadEnds = 16,
 }
 
 impl Refusal {
-    const ALL: [Refusal; 15] = [
+    const ALL: [Refusal; 16] = [
         Refusal::BadName,
         Refusal::BadId,
         Refusal::DatabaseTooLarge,
@@ -56,9 +58,10 @@ impl Refusal {
         Refusal::BadPadding,
         Refusal::TooManyLines,
         Refusal::PartialQuestion,
+        Refusal::BadEnds,
     ];
 
-    /// The refusal number, 1 to 15.
+    /// The refusal number, 1 to 16.
     pub fn number(self) -> u32 {
         self as u32
     }
@@ -88,6 +91,7 @@ impl fmt::Display for Refusal {
             Refusal::BadPadding => "the command's padding has too many digits",
             Refusal::TooManyLines => "the database has more than 4,096 descriptions to repair",
             Refusal::PartialQuestion => "the last question of the batch is cut off",
+            Refusal::BadEnds => "the files' ends fall or pass the buffer, or there are more than eight",
         })
     }
 }

@@ -4,35 +4,43 @@
 
 mod c {
     extern "C" {
-        pub fn termcap_show(
+        pub fn termcap_show_files(
             db: *const u8,
             db_len: usize,
+            ends: *const usize,
+            ends_len: usize,
             name: *const u8,
             name_len: usize,
             start: *mut u64,
             length: *mut u64,
         ) -> u32;
-        pub fn termcap_flag(
+        pub fn termcap_flag_files(
             db: *const u8,
             db_len: usize,
+            ends: *const usize,
+            ends_len: usize,
             name: *const u8,
             name_len: usize,
             id: *const u8,
             id_len: usize,
             value: *mut u64,
         ) -> u32;
-        pub fn termcap_number(
+        pub fn termcap_number_files(
             db: *const u8,
             db_len: usize,
+            ends: *const usize,
+            ends_len: usize,
             name: *const u8,
             name_len: usize,
             id: *const u8,
             id_len: usize,
             value: *mut u64,
         ) -> u32;
-        pub fn termcap_string(
+        pub fn termcap_string_files(
             db: *const u8,
             db_len: usize,
+            ends: *const usize,
+            ends_len: usize,
             name: *const u8,
             name_len: usize,
             id: *const u8,
@@ -41,27 +49,33 @@ mod c {
             out_len: usize,
             count: *mut u64,
         ) -> u32;
-        pub fn termcap_list(
+        pub fn termcap_list_files(
             db: *const u8,
             db_len: usize,
+            ends: *const usize,
+            ends_len: usize,
             name: *const u8,
             name_len: usize,
             out: *mut u8,
             out_len: usize,
             records: *mut u64,
         ) -> u32;
-        pub fn termcap_flat(
+        pub fn termcap_flat_files(
             db: *const u8,
             db_len: usize,
+            ends: *const usize,
+            ends_len: usize,
             name: *const u8,
             name_len: usize,
             out: *mut u8,
             out_len: usize,
             count: *mut u64,
         ) -> u32;
-        pub fn termcap_batch(
+        pub fn termcap_batch_files(
             db: *const u8,
             db_len: usize,
+            ends: *const usize,
+            ends_len: usize,
             name: *const u8,
             name_len: usize,
             questions: *const u8,
@@ -114,17 +128,30 @@ mod c {
 // and numbers are borrowed mutably, so they overlap nothing else. The library keeps no pointer,
 // reads only within the input slices, and writes only within the output buffers and the numbers.
 
-pub fn show(db: &[u8], name: &[u8], start: &mut u64, length: &mut u64) -> u32 {
-    // SAFETY: see above.
-    unsafe { c::termcap_show(db.as_ptr(), db.len(), name.as_ptr(), name.len(), start, length) }
-}
-
-pub fn flag(db: &[u8], name: &[u8], id: &[u8], value: &mut u64) -> u32 {
+pub fn show(db: &[u8], ends: &[usize], name: &[u8], start: &mut u64, length: &mut u64) -> u32 {
     // SAFETY: see above.
     unsafe {
-        c::termcap_flag(
+        c::termcap_show_files(
             db.as_ptr(),
             db.len(),
+            ends.as_ptr(),
+            ends.len(),
+            name.as_ptr(),
+            name.len(),
+            start,
+            length,
+        )
+    }
+}
+
+pub fn flag(db: &[u8], ends: &[usize], name: &[u8], id: &[u8], value: &mut u64) -> u32 {
+    // SAFETY: see above.
+    unsafe {
+        c::termcap_flag_files(
+            db.as_ptr(),
+            db.len(),
+            ends.as_ptr(),
+            ends.len(),
             name.as_ptr(),
             name.len(),
             id.as_ptr(),
@@ -134,12 +161,14 @@ pub fn flag(db: &[u8], name: &[u8], id: &[u8], value: &mut u64) -> u32 {
     }
 }
 
-pub fn number(db: &[u8], name: &[u8], id: &[u8], value: &mut u64) -> u32 {
+pub fn number(db: &[u8], ends: &[usize], name: &[u8], id: &[u8], value: &mut u64) -> u32 {
     // SAFETY: see above.
     unsafe {
-        c::termcap_number(
+        c::termcap_number_files(
             db.as_ptr(),
             db.len(),
+            ends.as_ptr(),
+            ends.len(),
             name.as_ptr(),
             name.len(),
             id.as_ptr(),
@@ -149,12 +178,21 @@ pub fn number(db: &[u8], name: &[u8], id: &[u8], value: &mut u64) -> u32 {
     }
 }
 
-pub fn string(db: &[u8], name: &[u8], id: &[u8], out: &mut [u8], count: &mut u64) -> u32 {
+pub fn string(
+    db: &[u8],
+    ends: &[usize],
+    name: &[u8],
+    id: &[u8],
+    out: &mut [u8],
+    count: &mut u64,
+) -> u32 {
     // SAFETY: see above.
     unsafe {
-        c::termcap_string(
+        c::termcap_string_files(
             db.as_ptr(),
             db.len(),
+            ends.as_ptr(),
+            ends.len(),
             name.as_ptr(),
             name.len(),
             id.as_ptr(),
@@ -166,12 +204,14 @@ pub fn string(db: &[u8], name: &[u8], id: &[u8], out: &mut [u8], count: &mut u64
     }
 }
 
-pub fn list(db: &[u8], name: &[u8], out: &mut [u8], records: &mut u64) -> u32 {
+pub fn list(db: &[u8], ends: &[usize], name: &[u8], out: &mut [u8], records: &mut u64) -> u32 {
     // SAFETY: see above.
     unsafe {
-        c::termcap_list(
+        c::termcap_list_files(
             db.as_ptr(),
             db.len(),
+            ends.as_ptr(),
+            ends.len(),
             name.as_ptr(),
             name.len(),
             out.as_mut_ptr(),
@@ -181,12 +221,14 @@ pub fn list(db: &[u8], name: &[u8], out: &mut [u8], records: &mut u64) -> u32 {
     }
 }
 
-pub fn flat(db: &[u8], name: &[u8], out: &mut [u8], count: &mut u64) -> u32 {
+pub fn flat(db: &[u8], ends: &[usize], name: &[u8], out: &mut [u8], count: &mut u64) -> u32 {
     // SAFETY: see above.
     unsafe {
-        c::termcap_flat(
+        c::termcap_flat_files(
             db.as_ptr(),
             db.len(),
+            ends.as_ptr(),
+            ends.len(),
             name.as_ptr(),
             name.len(),
             out.as_mut_ptr(),
@@ -196,12 +238,21 @@ pub fn flat(db: &[u8], name: &[u8], out: &mut [u8], count: &mut u64) -> u32 {
     }
 }
 
-pub fn batch(db: &[u8], name: &[u8], questions: &[u8], out: &mut [u8], answers: &mut u64) -> u32 {
+pub fn batch(
+    db: &[u8],
+    ends: &[usize],
+    name: &[u8],
+    questions: &[u8],
+    out: &mut [u8],
+    answers: &mut u64,
+) -> u32 {
     // SAFETY: see above.
     unsafe {
-        c::termcap_batch(
+        c::termcap_batch_files(
             db.as_ptr(),
             db.len(),
+            ends.as_ptr(),
+            ends.len(),
             name.as_ptr(),
             name.len(),
             questions.as_ptr(),

@@ -1,8 +1,8 @@
 //! Calls with answers worked out by hand.
 
 use termcap_proved::{
-    send, send_at, send_at_into, send_into, Answered, Database, Kind, Line, NotARefusal, Position,
-    Question, Record, Refusal, FLAT_BYTES, RECORDS,
+    send, send_at, send_at_into, send_into, Answered, Database, Files, Kind, Line, NotARefusal,
+    Position, Question, Record, Refusal, FLAT_BYTES, RECORDS,
 };
 
 const CASE: &[u8] = br"N9|aaa:am:li#30:tc=aaa-unk:
@@ -18,7 +18,7 @@ const SLOW: Line = Line { lines: 1, speed: 1200, pad: 0 };
 const MARK: u8 = 0xA5;
 
 fn record(name: &[u8; 2], kind: Kind, place: u8, value: u32) -> Record {
-    Record { name: *name, kind, place, value }
+    Record { name: *name, kind, place, value, file: 0 }
 }
 
 #[test]
@@ -31,12 +31,15 @@ fn the_whole_case_is_listed() {
     ];
     assert_eq!(database.list("aaa-nam"), Ok(records));
 
-    let mut out = [MARK; 25];
+    let mut out = [MARK; 37];
     assert_eq!(database.list_into("aaa-nam", &mut out), Ok(3));
-    let bytes =
-        [[108, 105, 2, 1, 0, 0, 0, 30], [99, 111, 2, 2, 0, 0, 0, 80], [99, 108, 3, 2, 0, 0, 0, 3]];
-    assert_eq!(out[..24], bytes.concat());
-    assert_eq!(out[24], MARK);
+    let bytes = [
+        [108, 105, 2, 1, 0, 0, 0, 30, 0, 0, 0, 0],
+        [99, 111, 2, 2, 0, 0, 0, 80, 0, 0, 0, 0],
+        [99, 108, 3, 2, 0, 0, 0, 3, 0, 0, 0, 0],
+    ];
+    assert_eq!(out[..36], bytes.concat());
+    assert_eq!(out[36], MARK);
 }
 
 #[test]
@@ -92,6 +95,37 @@ fn an_empty_name_id_database_or_command_is_fine_to_pass() {
 }
 
 #[test]
+fn a_private_file_stands_before_the_common_one() {
+    let files = Files::from_iter(["n:am:tc=m:\n", "m:co#80:tc=n:\nn:li#24:\n"]);
+    let database = files.database();
+    let am = Record { file: 0, ..record(b"am", Kind::Flag, 0, 1) };
+    let co = Record { file: 1, ..record(b"co", Kind::Number, 1, 80) };
+    let li = Record { file: 1, ..record(b"li", Kind::Number, 2, 24) };
+    assert_eq!(database.list("n"), Ok(vec![am, co, li]));
+    assert_eq!(database.flat("n"), Ok(b"n:am:co#80:li#24:\n".to_vec()));
+    assert_eq!(database.show("n"), Ok(&b"n:am:tc=m:"[..]));
+    assert_eq!(database.show("m").unwrap().as_ptr(), database.as_bytes()[11..].as_ptr());
+    // In one file the link of `m` comes back to the first `n`.
+    assert_eq!(Database::new(database.as_bytes()).list("n"), Err(Refusal::Cycle));
+    // A link is never searched in an earlier file.
+    let files = Files::from_iter(["p:am:\n", "n:tc=p:\n"]);
+    assert_eq!(files.database().flag("n", "am"), Err(Refusal::LostLink));
+    assert_eq!(files.database().flag("p", "am"), Ok(true));
+}
+
+#[test]
+fn ends_are_refused_before_all_else() {
+    let ends = |ends: &[usize]| Database::with_ends(b"n:am:\n", ends).flag("", "a");
+    assert_eq!(ends(&[5, 4]), Err(Refusal::BadEnds));
+    assert_eq!(ends(&[7]), Err(Refusal::BadEnds));
+    assert_eq!(ends(&[6; 9]), Err(Refusal::BadEnds));
+    assert_eq!(ends(&[6; 8]), Err(Refusal::BadName));
+    assert_eq!(Database::with_ends(b"n:am:\n", &[]).flag("n", "am"), Err(Refusal::UnknownName));
+    assert_eq!(Database::with_ends(b"n:am:\n", &[0, 6]).flag("n", "am"), Ok(true));
+    assert_eq!(Files::new().database().show("n"), Err(Refusal::UnknownName));
+}
+
+#[test]
 fn each_refusal_of_a_question() {
     let refusal = |bytes: &[u8]| Database::new(bytes).number("n", "co").unwrap_err();
     assert_eq!(Database::new(b"n:").flag("a:b", "am"), Err(Refusal::BadName));
@@ -135,7 +169,7 @@ fn a_buffer_one_short_is_refused_and_keeps_every_byte() {
     let mut out = [MARK; 64];
 
     assert_eq!(database.string_into("aaa-nam", "cl", &mut out[..2]), Err(Refusal::NoRoom));
-    assert_eq!(database.list_into("aaa-nam", &mut out[..23]), Err(Refusal::NoRoom));
+    assert_eq!(database.list_into("aaa-nam", &mut out[..35]), Err(Refusal::NoRoom));
     assert_eq!(database.flat_into("aaa-nam", &mut out[..31]), Err(Refusal::NoRoom));
     assert_eq!(send_into("20A", &SLOW, &mut out[..3]), Err(Refusal::NoRoom));
     let moved = send_at_into("\x1B[%i%d;%dH", &position, &SLOW, &mut out[..7]);
@@ -143,13 +177,13 @@ fn a_buffer_one_short_is_refused_and_keeps_every_byte() {
     assert_eq!(out, [MARK; 64]);
 
     assert_eq!(database.string_into("aaa-nam", "cl", &mut out[..3]), Ok(Some(3)));
-    assert_eq!(database.list_into("aaa-nam", &mut out[..24]), Ok(3));
+    assert_eq!(database.list_into("aaa-nam", &mut out[..36]), Ok(3));
     assert_eq!(database.flat_into("aaa-nam", &mut out[..32]), Ok(32));
     assert_eq!(send_into("20A", &SLOW, &mut out[..4]), Ok(4));
     let moved = send_at_into("\x1B[%i%d;%dH", &position, &SLOW, &mut out[..8]);
     assert_eq!(moved, Ok(8));
     assert_eq!(&out[..8], b"\x1B[21;59H");
-    assert_eq!(out[32..], [MARK; 32]);
+    assert_eq!(out[36..], [MARK; 28]);
 }
 
 #[test]
@@ -311,13 +345,13 @@ fn padding_of_motions_is_taken_off_first() {
 
 #[test]
 fn a_refusal_is_told_in_a_sentence_of_its_own() {
-    let texts = (1..=15).map(|number| Refusal::try_from(number).unwrap().to_string());
+    let texts = (1..=16).map(|number| Refusal::try_from(number).unwrap().to_string());
     let mut texts: Vec<String> = texts.collect();
     assert_eq!(texts[3], "no terminal in the database has this name");
     assert_eq!(texts[8], "the output does not fit the buffer");
     texts.sort();
     texts.dedup();
-    assert_eq!(texts.len(), 15);
+    assert_eq!(texts.len(), 16);
 }
 
 #[test]
@@ -357,26 +391,27 @@ fn a_batch_writes_what_it_reports_and_no_more() {
     assert_eq!(out, [1, 0, 0, 0, 0, 0, 0, 0, 0, 0, 0, 0, 0, 0, 0, 30, MARK]);
     assert_eq!(Answered::from_bytes([1, 0, 0, 0, 0, 0, 0, 0]), Some(Answered::Absent));
     assert_eq!(Answered::from_bytes([1, 0, 0, 0, 0, 0, 0, 1]), None);
-    assert_eq!(Answered::from_bytes([2, 16, 0, 0, 0, 0, 0, 0]), None);
+    assert_eq!(Answered::from_bytes([2, 17, 0, 0, 0, 0, 0, 0]), None);
     assert_eq!(Answered::Present(30).value(), Ok(Some(30)));
 }
 
 #[test]
 fn refusals_and_kinds_have_their_numbers() {
-    for number in 1..=15 {
+    for number in 1..=16 {
         let refusal = Refusal::try_from(number).unwrap();
         assert_eq!(refusal.number(), number);
     }
-    for number in [0, 16, 255, u32::MAX] {
+    for number in [0, 17, 255, u32::MAX] {
         assert_eq!(Refusal::try_from(number), Err(NotARefusal(number)));
     }
     assert_eq!(Refusal::BadName.number(), 1);
     assert_eq!(Refusal::BadPadding.number(), 13);
     assert_eq!(Refusal::TooManyLines.number(), 14);
     assert_eq!(Refusal::PartialQuestion.number(), 15);
-    assert_eq!(NotARefusal(16).to_string(), "16 is no refusal number");
+    assert_eq!(Refusal::BadEnds.number(), 16);
+    assert_eq!(NotARefusal(17).to_string(), "17 is no refusal number");
 
     assert_eq!(Kind::from_number(3), Some(Kind::String));
     assert_eq!(Kind::from_number(4), None);
-    assert_eq!(Record::from_bytes([b'c', b'o', 0, 0, 0, 0, 0, 0]), None);
+    assert_eq!(Record::from_bytes([b'c', b'o', 0, 0, 0, 0, 0, 0, 0, 0, 0, 0]), None);
 }

@@ -11,6 +11,7 @@ use lib.ListN.{length, drop, getD, length-append, length-drop}
 use lib.Seq.{sets}
 use Rattle.spec.specs.Choice.{pick, both}
 use Rattle.spec.specs.Refusals.{idBytes, goodName, tooLarge}
+use Rattle.spec.specs.Files.{Files, goodEnds, contents}
 use Rattle.spec.specs.Fields.{kindNumber, kindOf}
 use Rattle.spec.specs.Chain.{Field, Terminal, refused, terminal, joinedFields, resolve}
 use Rattle.spec.specs.Questions.{terminalOf, answerFor}
@@ -28,7 +29,7 @@ use Rattle.spec.proofs.Stores.{stored-append}
 use Rattle.spec.proofs.LookupSteps.{hit-size}
 use Rattle.spec.proofs.Records.{value-small}
 use Rattle.spec.proofs.AcceptedChain.{resolved-sound}
-use Rattle.chain.specs.Answers.{placesOf}
+use Rattle.chain.specs.Answers.{linesOf}
 use Rattle.chain.specs.declared.Chain.{Chain}
 use Rattle.chain.specs.declared.Ended.{Ended}
 use Rattle.chain.specs.declared.Ended.the-variants.{Accepted, Refused as Broken}
@@ -133,17 +134,17 @@ answers-length t (a ∷ b ∷ k ∷ z ∷ l) =
 
 -- ---- the terminal
 
-module _ (db name : List ℕ) (good : goodName name ≡ true) (small : length db ≤ 1048576) where
-  walked : resolve db name ≡ terminalOf db name
+module _ (db : Files) (name : List ℕ) (ends : goodEnds db ≡ true) (good : goodName name ≡ true) (small : length (db .bytes) ≤ 1048576) where
+  walked : resolve (contents db) name ≡ terminalOf db name
   unfolding terminalOf tooLarge
-  walked = rw (good, le-ltb 1048576 (length db) small)
+  walked = rw (ends, good, le-ltb 1048576 (length (db .bytes)) small)
 
-  small-values : (names : List ℕ) (fs : List Field) → resolve db name ≡ terminal names fs → SmallValues fs
-  small-values names fs e id k t h = value-small t (omega (arith, hit-size id k fs t h, resolved-sound db name names fs e .fits))
+  small-values : (names : List ℕ) (fs : List Field) → resolve (contents db) name ≡ terminal names fs → SmallValues fs
+  small-values names fs e id k t h = value-small t (omega (arith, hit-size id k fs t h, resolved-sound (contents db) name names fs e .fits))
 
   -- by how the walk ended
-  pub known : (c : Chain) (w : Ended) (marks values : List ℕ) → Resolved db name c w → Answering (joinedFields db 0 (placesOf c)) marks values
-      → Known (resolve db name) w marks values
+  pub known : (c : Chain) (w : Ended) (marks values : List ℕ) → Resolved db name c w → Answering (joinedFields (contents db) 0 (linesOf c)) marks values
+      → Known (resolve (contents db) name) w marks values
   known c Accepted marks values q n = (_, _, walked ∙ q .0, n, small-values _ _ (walked ∙ q .0))
   known c (Broken r) marks values q n = walked ∙ q .0
 

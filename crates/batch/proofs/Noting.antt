@@ -11,6 +11,9 @@ use Rattle.spec.specs.Lines.{lineAt}
 use Rattle.spec.specs.Fields.{Content, cancel, capability, reading, split, fieldsOf, contentKind, contentValue}
 use Rattle.spec.specs.Chain.{Field, placed}
 use Rattle.spec.specs.Lookup.{matches}
+use Rattle.spec.specs.Files.{fileAt}
+use Rattle.spec.specs.declared.Location.{Location}
+use Rattle.spec.proofs.FileLines.{line-of-part}
 use Rattle.field_bounds.specs.Answers.{fieldAt}
 use Rattle.fields.specs.Readings.{Reads}
 use Rattle.fields.specs.declared.FieldRead.{FieldRead}
@@ -24,9 +27,9 @@ use Rattle.batch.specs.Answers.{Notes}
 
 -- ---- one field
 
-module _ (place : ℕ) (text m v : List ℕ) where
+module _ (place file : ℕ) (text m v : List ℕ) where
   abbrev here : Field
-  here = record { place = place; text = text }
+  here = record { place = place; file = file; text = text }
 
   noted-other : ((id : List ℕ) (k : ℕ) → matches id k (reading text) ≡ false) → Notes (here ∷ []) m v m v
   noted-other h fs w = other-answers fs here m v w h
@@ -39,16 +42,16 @@ module _ (place : ℕ) (text m v : List ℕ) where
   noted-kept a b c m′ v′ e some s u = rw (s, u) (λ fs w. kept-answers fs here m v w a b c e some)
 
 -- malformed, ignored, or a link: the answers that the arm `_` takes together, by their tags
-pub noted-none : (s : List ℕ) (at place : ℕ) (read : FieldRead) (m v : List ℕ) → Reads s at read → OneOf (0 ∷ 1 ∷ 2 ∷ []) (tagOf the-type read)
-    → Notes (record { place = place; text = fieldAt s at } ∷ []) m v m v
+pub noted-none : (s : List ℕ) (at place file : ℕ) (read : FieldRead) (m v : List ℕ) → Reads s at read → OneOf (0 ∷ 1 ∷ 2 ∷ []) (tagOf the-type read)
+    → Notes (record { place = place; file = file; text = fieldAt s at } ∷ []) m v m v
 unfolding matches
-noted-none s at place Malformed m v h o = noted-other place (fieldAt s at) m v (λ id k. rw h)
-noted-none s at place Ignored m v h o = noted-other place (fieldAt s at) m v (λ id k. rw h)
-noted-none s at place (Link name) m v h o = noted-other place (fieldAt s at) m v (λ id k. rw (h .0))
-noted-none s at place (Cancel a b) m v h o = absurd (miss (0 ∷ 1 ∷ 2 ∷ []) 3 tt o)
-noted-none s at place (Flag a b) m v h o = absurd (miss (0 ∷ 1 ∷ 2 ∷ []) 4 tt o)
-noted-none s at place (Number a b n) m v h o = absurd (miss (0 ∷ 1 ∷ 2 ∷ []) 5 tt o)
-noted-none s at place (String a b text n) m v h o = absurd (miss (0 ∷ 1 ∷ 2 ∷ []) 6 tt o)
+noted-none s at place file Malformed m v h o = noted-other place file (fieldAt s at) m v (λ id k. rw h)
+noted-none s at place file Ignored m v h o = noted-other place file (fieldAt s at) m v (λ id k. rw h)
+noted-none s at place file (Link name) m v h o = noted-other place file (fieldAt s at) m v (λ id k. rw (h .0))
+noted-none s at place file (Cancel a b) m v h o = absurd (miss (0 ∷ 1 ∷ 2 ∷ []) 3 tt o)
+noted-none s at place file (Flag a b) m v h o = absurd (miss (0 ∷ 1 ∷ 2 ∷ []) 4 tt o)
+noted-none s at place file (Number a b n) m v h o = absurd (miss (0 ∷ 1 ∷ 2 ∷ []) 5 tt o)
+noted-none s at place file (String a b text n) m v h o = absurd (miss (0 ∷ 1 ∷ 2 ∷ []) 6 tt o)
 
 -- ---- one part after another
 
@@ -61,17 +64,19 @@ module _ (gs hs : List Field) (m v m₁ v₁ m₂ v₂ : List ℕ) where
 
 module _ (m v m₁ v₁ m₂ v₂ : List ℕ) where
   -- the fields of a part from a place on: one, and those from the next place on
-  pub fields-on : (s : List ℕ) (at next place : ℕ) → split (lineAt s at) ≡ fieldAt s at ∷ split (lineAt s next)
-      → Notes (record { place = place; text = fieldAt s at } ∷ []) m v m₁ v₁ → Notes (placed place (split (lineAt s next))) m₁ v₁ m₂ v₂
-      → Notes (placed place (split (lineAt s at))) m v m₂ v₂
+  pub fields-on : (s : List ℕ) (at next place file : ℕ) → split (lineAt s at) ≡ fieldAt s at ∷ split (lineAt s next)
+      → Notes (record { place = place; file = file; text = fieldAt s at } ∷ []) m v m₁ v₁ → Notes (placed place file (split (lineAt s next))) m₁ v₁ m₂ v₂
+      → Notes (placed place file (split (lineAt s at))) m v m₂ v₂
   unfolding placed
-  fields-on s at next place e p q =
-      rw e (notes-then (record { place = place; text = fieldAt s at } ∷ []) (placed place (split (lineAt s next))) m v m₁ v₁ m₂ v₂ p q)
+  fields-on s at next place file e p q =
+      rw e (notes-then (record { place = place; file = file; text = fieldAt s at } ∷ []) (placed place file (split (lineAt s next))) m v m₁ v₁ m₂ v₂ p q)
 
-  -- the lines of a chain from one on: that, and those from the next on
-  pub lines-on : (db places : List ℕ) (n i : ℕ) → i < n → i < length places
-      → Notes (placed i (fieldsOf (lineAt db (getD places i 0)))) m v m₁ v₁ → Notes (fieldsFrom db places n (i + 1)) m₁ v₁ m₂ v₂
-      → Notes (fieldsFrom db places n i) m v m₂ v₂
-  lines-on db places n i h k p q =
-      rw (from-next db places n i h k)
-      (notes-then (placed i (fieldsOf (lineAt db (getD places i 0)))) (fieldsFrom db places n (i + 1)) m v m₁ v₁ m₂ v₂ p q)
+  -- the lines of a chain from one on: that, read in the part of its file, and those from the next on
+  pub lines-on : (db : List (List ℕ)) (lines : List Location) (n i : ℕ) (d : Location) (part : List ℕ) → i < n → i < length lines
+      → part ≡ fileAt db ((getD lines i d) .file)
+      → Notes (placed i ((getD lines i d) .file) (fieldsOf (lineAt part ((getD lines i d) .at)))) m v m₁ v₁
+      → Notes (fieldsFrom db lines n (i + 1)) m₁ v₁ m₂ v₂ → Notes (fieldsFrom db lines n i) m v m₂ v₂
+  lines-on db lines n i d part h k e p q =
+      let here = placed i ((getD lines i d) .file) (fieldsOf (lineAt part ((getD lines i d) .at))) in
+      rw (from-next db lines n d i h k, line-of-part db (getD lines i d) part e)
+      (notes-then here (fieldsFrom db lines n (i + 1)) m v m₁ v₁ m₂ v₂ p q)

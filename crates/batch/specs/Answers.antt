@@ -26,11 +26,11 @@ Notes gs marks values marks′ values′ = (fs : List Field) → Answering fs ma
 -- `note_field`: whatever field is read so.
 abbrev pub NotesRead : FieldRead → List ℕ → List ℕ → List ℕ → List ℕ → Type 0
 NotesRead read marks values marks′ values′ =
-    (s : List ℕ) (at place : ℕ) → Reads s at read → Notes (record { place = place; text = fieldAt s at } ∷ []) marks values marks′ values′
+    (s : List ℕ) (at place file : ℕ) → Reads s at read → Notes (record { place = place; file = file; text = fieldAt s at } ∷ []) marks values marks′ values′
 
 -- `note_fields`, `note_line`: the fields of a line, wherever the line stands in the chain.
 abbrev pub NotesTexts : List (List ℕ) → List ℕ → List ℕ → List ℕ → List ℕ → Type 0
-NotesTexts ts marks values marks′ values′ = (place : ℕ) → Notes (placed place ts) marks values marks′ values′
+NotesTexts ts marks values marks′ values′ = (place file : ℕ) → Notes (placed place file ts) marks values marks′ values′
 
 -- ---- the answers
 

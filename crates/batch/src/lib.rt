@@ -14,6 +14,8 @@ use fields::FieldRead;
 use fields::NextField;
 use fields::is_id;
 use fields::next_field;
+use files::are_good_ends;
+use files::file;
 use identifiers::is_good_name;
 use spec::Answer;
 use spec::Kind;
@@ -31,12 +33,13 @@ ghost use lib.ListN.{length};
 ghost use lib.Seq.{sets};
 ghost use Rattle.spec.specs.Lines.{lineAt};
 ghost use Rattle.spec.specs.Refusals.{goodName};
+ghost use Rattle.spec.specs.Files.{files, goodEnds, contents};
 ghost use Rattle.spec.specs.Fields.{split, fieldsOf};
 ghost use Rattle.spec.specs.Chain.{joinedFields, resolve as resolved};
 ghost use Rattle.spec.specs.Answers.{writtenReport};
 ghost use Rattle.spec.specs.Listing.{fourBytes};
 ghost use Rattle.spec.specs.Batch.{answerBytes, batchAnswers, batchOutcome, batchReport};
-ghost use Rattle.chain.specs.Answers.{placesOf};
+ghost use Rattle.chain.specs.Answers.{linesOf};
 ghost use Rattle.batch.specs.Answers.{Notes, NotesRead, NotesTexts, Asked, Answers, PutAnswers};
 
 const QUESTION_SIZE: usize = 4;
@@ -85,28 +88,36 @@ fn note_fields(s: &[u8], marks: &mut [u8; NAMES], values: &mut [u16; VALUES])
     }
 }
 
-// The same for all fields of the line at a place.
-fn note_line(db: &[u8], at: usize, marks: &mut [u8; NAMES], values: &mut [u16; VALUES])
-    ensures { λ _. ⌜ NotesTexts (fieldsOf (lineAt (now (db .entry)) at)) (now (marks .entry)) (now (values .entry))
+// The same for all fields of the line at a place of a file.
+fn note_line(s: &[u8], at: usize, marks: &mut [u8; NAMES], values: &mut [u16; VALUES])
+    ensures { λ _. ⌜ NotesTexts (fieldsOf (lineAt (now (s .entry)) at)) (now (marks .entry)) (now (values .entry))
         (now (marks .exit)) (now (values .exit)) ⌝ }
 {
-    let AfterNames::At(from, _) = after_names(db, at) else {
+    let AfterNames::At(from, _) = after_names(s, at) else {
         return;
     };
-    note_fields(&db[from..], marks, values);
+    note_fields(&s[from..], marks, values);
 }
 
 // The same for all fields of a chain.
-fn note_chain(db: &[u8], c: Chain, marks: &mut [u8; NAMES], values: &mut [u16; VALUES])
+fn note_chain(
+    db: &[u8],
+    ends: &[usize],
+    c: Chain,
+    marks: &mut [u8; NAMES],
+    values: &mut [u16; VALUES],
+)
     requires { ⌜ c .count ≤ 32 ⌝ }
-    ensures { λ _. ⌜ Notes (joinedFields (now (db .entry)) 0 (placesOf c)) (now (marks .entry)) (now (values .entry))
+    ensures { λ _. ⌜ Notes (joinedFields (contents (files (now (db .entry)) (now (ends .entry)))) 0 (linesOf c)) (now (marks .entry)) (now (values .entry))
         (now (marks .exit)) (now (values .exit)) ⌝ }
 {
-    let places = c.places;
+    let lines = c.lines;
     let n = c.count;
     let mut i = 0;
     while i < n {
-        note_line(db, places[i], marks, values);
+        let p = lines[i];
+        let k = p.file;
+        note_line(file(db, ends, k), p.at, marks, values);
         i += 1;
     }
 }
@@ -199,24 +210,29 @@ fn put_answers(
 }
 
 // Answers all questions, for which there is room.
-fn answer_all(db: &[u8], name: &[u8], questions: &[u8], out: &mut [u8])
-    requires { ⌜ (goodName (now name) ≡ true) × (length (now db) ≤ 1048576) × (length (now questions) / 4 * 8 ≤ length (now out)) ⌝ }
-    ensures { λ _. ⌜ now (out .exit) ≡ sets (now (out .entry)) 0 (batchAnswers (resolved (now (db .entry)) (now (name .entry))) (now (questions .entry))) ⌝ }
+fn answer_all(db: &[u8], ends: &[usize], name: &[u8], questions: &[u8], out: &mut [u8])
+    requires { ⌜ (goodEnds (files (now db) (now ends)) ≡ true) × (goodName (now name) ≡ true) × (length (now db) ≤ 1048576) ⌝ }
+    requires { ⌜ length (now questions) / 4 * 8 ≤ length (now out) ⌝ }
+    ensures { λ _. ⌜ now (out .exit) ≡ sets (now (out .entry)) 0
+        (batchAnswers (resolved (contents (files (now (db .entry)) (now (ends .entry)))) (now (name .entry))) (now (questions .entry))) ⌝ }
 {
-    let w = resolve(db, name);
+    let w = resolve(db, ends, name);
     let ended = w.ended;
     let mut marks = [0u8; NAMES];
     let mut values = [0u16; VALUES];
-    note_chain(db, w.chain, &mut marks, &mut values);
+    note_chain(db, ends, w.chain, &mut marks, &mut values);
     put_answers(questions, ended, &marks, &values, out);
 }
 
-// "The whole call is refused with 1, 3, 15 and 9, in that order": none of them needs the walk.
-pub fn batch(db: &[u8], name: &[u8], questions: &[u8], out: &mut [u8]) -> Written
-    ensures { λ r. ⌜ (r ≡ batchOutcome (now (db .entry)) (now (name .entry)) (now (questions .entry)) (now (out .entry)) .answer)
-        × (now (out .exit) ≡ batchOutcome (now (db .entry)) (now (name .entry)) (now (questions .entry)) (now (out .entry)) .buffer)
-        × (writtenReport r ≡ batchReport (now (db .entry)) (now (name .entry)) (now (questions .entry)) (now (out .entry))) ⌝ }
+// "The whole call is refused with 1, 3, 15 and 9, in that order", and 16 before all others: none of them needs the walk.
+pub fn batch(db: &[u8], ends: &[usize], name: &[u8], questions: &[u8], out: &mut [u8]) -> Written
+    ensures { λ r. ⌜ (r ≡ batchOutcome (files (now (db .entry)) (now (ends .entry))) (now (name .entry)) (now (questions .entry)) (now (out .entry)) .answer)
+        × (now (out .exit) ≡ batchOutcome (files (now (db .entry)) (now (ends .entry))) (now (name .entry)) (now (questions .entry)) (now (out .entry)) .buffer)
+        × (writtenReport r ≡ batchReport (files (now (db .entry)) (now (ends .entry))) (now (name .entry)) (now (questions .entry)) (now (out .entry))) ⌝ }
 {
+    if !are_good_ends(db, ends) {
+        return Written::Refused(Refusal::BadEnds);
+    }
     if !is_good_name(name) {
         return Written::Refused(Refusal::BadName);
     }
@@ -230,6 +246,6 @@ pub fn batch(db: &[u8], name: &[u8], questions: &[u8], out: &mut [u8]) -> Writte
     if n > out.len() / ANSWER_SIZE {
         return Written::Refused(Refusal::NoRoom);
     }
-    answer_all(db, name, questions, out);
+    answer_all(db, ends, name, questions, out);
     Written::Count(n)
 }

@@ -105,10 +105,10 @@ string-answers id (terminal names fs) buffer = decoded-answers (lookup id 3 fs) 
 
 -- ---- List and Flat
 
-list-writes : (t : Terminal) (buffer : List ℕ) → Writes 8 buffer (listFor t buffer)
+list-writes : (t : Terminal) (buffer : List ℕ) → Writes 12 buffer (listFor t buffer)
 unfolding listFor
-list-writes (refused r) buffer = kept 8 r buffer
-list-writes (terminal names fs) buffer = written 8 (records (winning fs)) (length (winning fs)) buffer (records-length (winning fs) (winning-wins fs))
+list-writes (refused r) buffer = kept 12 r buffer
+list-writes (terminal names fs) buffer = written 12 (records (winning fs)) (length (winning fs)) buffer (records-length (winning fs) (winning-wins fs))
 
 flat-writes : (t : Terminal) (buffer : List ℕ) → Writes 1 buffer (flatFor t buffer)
 unfolding flatFor

@@ -9,7 +9,7 @@ use native.Mathlib.Nat.{div-div-eq-div-mul, div-add-mod, mod-eq-of-lt}
 use native.Mathlib.Omega.{arith}
 use borrow.Author.Tests.{eqb-true, eq-eqb}
 use lib.Dec.{eqb, leb, lit<}
-use lib.ListN.{length, drop}
+use lib.ListN.{take, length, drop}
 use lib.Seq.{take-append-seam, take-at, drop-at}
 use Rattle.spec.specs.Choice.{pick, both, either}
 use Rattle.spec.specs.Lists.{same}
@@ -36,6 +36,7 @@ use Rattle.spec.specs.Fields.{
   contentBytes,
 }
 use Rattle.spec.proofs.Readings.{reading-entered}
+use Rattle.spec.specs.Files.{Files, alone}
 use Rattle.spec.specs.Chain.{Field, placed, texts, Terminal, refused, terminal}
 use Rattle.spec.proofs.AcceptedChain.{texts-placed}
 use Rattle.spec.specs.Questions.{terminalOf, terminalFor, hitAnswer, answerFor, presented, flagAnswer, numberAnswer, decodedOutcome, stringFor, stringOutcome}
@@ -67,12 +68,12 @@ use Rattle.demands.specs.Demand3.{
   EveryAccepted,
 }
 use Rattle.spec.specs.Listing.{fourBytes, recordOf, records, listFor, listOutcome, flatText, flatFor, flatOutcome}
-use Rattle.spec.proofs.FlatAlone.{sound, asked-is, flag-same, number-same, string-same, list-same, flat-same}
+use Rattle.spec.proofs.FlatAlone.{opened-ends, sound, asked-is, flag-same, number-same, string-same, list-same, flat-same}
 use Rattle.spec.proofs.Records.{AllSmall, record-length, records-length, values-small, placed-length}
 
 -- ---- a call with room
 
-put-room : (bytes : List ℕ) (n : ℕ) (buffer : List ℕ) → HasRoom (put bytes n buffer .answer) → put bytes n buffer ≡ record
+pub put-room : (bytes : List ℕ) (n : ℕ) (buffer : List ℕ) → HasRoom (put bytes n buffer .answer) → put bytes n buffer ≡ record
     { answer = Count n; buffer = bytes ++ drop (length bytes) buffer }
 unfolding put
 put-room bytes n buffer = go (leb (length bytes) (length buffer))
@@ -120,50 +121,50 @@ four-value v h =
     rw (mod-eq-of-lt top, f, e) (pack v (v / 256) (v / 256 / 256) (v / 256 / 256 / 256) (v % 256) (v / 256 % 256) (v / 256 / 256 % 256) (div-add-mod v 256)
     (div-add-mod (v / 256) 256) (div-add-mod (v / 256 / 256) 256))
 
-is-of-record : (id : List ℕ) (k p : ℕ) (r : Reading) → canWin r ≡ true → isOf id k (recordOf p r) ≡ matches id k r
+is-of-record : (id : List ℕ) (k p n : ℕ) (r : Reading) → canWin r ≡ true → isOf id k (recordOf p n r) ≡ matches id k r
 unfolding isOf recordOf matches canWin
-is-of-record id k p malformed w = clash (sym w)
-is-of-record id k p ignored w = clash (sym w)
-is-of-record id k p (link n) w = clash (sym w)
-is-of-record id k p (capability a b t) w = refl
+is-of-record id k p n malformed w = clash (sym w)
+is-of-record id k p n ignored w = clash (sym w)
+is-of-record id k p n (link m) w = clash (sym w)
+is-of-record id k p n (capability a b t) w = refl
 
-tells-record : (id : List ℕ) (k v p : ℕ) (r : Reading) → canWin r ≡ true → valueOf r < 4294967296 → tells id k v (recordOf p r) ≡ both (matches id k r)
+tells-record : (id : List ℕ) (k v p n : ℕ) (r : Reading) → canWin r ≡ true → valueOf r < 4294967296 → tells id k v (recordOf p n r) ≡ both (matches id k r)
     (eqb (valueOf r) v)
 unfolding tells isOf recordOf matches canWin valueOf
-tells-record id k v p malformed w s = clash (sym w)
-tells-record id k v p ignored w s = clash (sym w)
-tells-record id k v p (link n) w s = clash (sym w)
-tells-record id k v p (capability a b t) w s = ap (λ (u : ℕ). both (both (same id (a ∷ b ∷ [])) (eqb k (contentKind t))) (eqb u v))
+tells-record id k v p n malformed w s = clash (sym w)
+tells-record id k v p n ignored w s = clash (sym w)
+tells-record id k v p n (link m) w s = clash (sym w)
+tells-record id k v p n (capability a b t) w s = ap (λ (u : ℕ). both (both (same id (a ∷ b ∷ [])) (eqb k (contentKind t))) (eqb u v))
     (four-value (contentValue t) s)
 
-unfoldable recordList : List Field → List (List ℕ)
+unfoldable pub recordList : List Field → List (List ℕ)
 recordList [] = []
-recordList (f ∷ fs) = recordOf (f .place) (reading (f .text)) ∷ recordList fs
+recordList (f ∷ fs) = recordOf (f .place) (f .file) (reading (f .text)) ∷ recordList fs
 
-cut-records : (fs : List Field) (rest : List ℕ) → AllWin (texts fs) → cut (length fs) (records fs ++ rest) ≡ recordList fs
+cut-records : (fs : List Field) (rest : List ℕ) → AllWin (texts fs) → cut 12 (length fs) (records fs ++ rest) ≡ recordList fs
 unfolding cut records recordList texts
 cut-records [] rest h = refl
 cut-records (f ∷ fs) rest h =
-    let r = recordOf (f .place) (reading (f .text)) in
-    let n = record-length (f .place) (reading (f .text)) (h .0) in
-    rw (append-assoc r (records fs) rest, take-at r (records fs ++ rest) 8 n, drop-at r (records fs ++ rest) 8 n, cut-records fs rest (h .2))
+    let r = recordOf (f .place) (f .file) (reading (f .text)) in
+    let n = record-length (f .place) (f .file) (reading (f .text)) (h .0) in
+    rw (append-assoc r (records fs) rest, take-at r (records fs ++ rest) 12 n, drop-at r (records fs ++ rest) 12 n, cut-records fs rest (h .2))
 
-put-listed : (fs : List Field) (buffer : List ℕ) → AllWin (texts fs) → HasRoom (put (records fs) (length fs) buffer .answer) → listed
+pub put-listed : (fs : List Field) (buffer : List ℕ) → AllWin (texts fs) → HasRoom (put (records fs) (length fs) buffer .answer) → listed
     (put (records fs) (length fs) buffer) ≡ recordList fs
 unfolding listed
 put-listed fs buffer w h = rw (put-room (records fs) (length fs) buffer h) (cut-records fs (drop (length (records fs)) buffer) w)
 
-ground-record : (p : ℕ) (r : Reading) → canWin r ≡ true → recordOf 0 r ≡ atPlaceZero (recordOf p r)
+ground-record : (p n : ℕ) (r : Reading) → canWin r ≡ true → recordOf 0 0 r ≡ atPlaceZero (recordOf p n r)
 unfolding recordOf canWin
-ground-record p malformed w = clash (sym w)
-ground-record p ignored w = clash (sym w)
-ground-record p (link n) w = clash (sym w)
-ground-record p (capability a b s) w = refl
+ground-record p n malformed w = clash (sym w)
+ground-record p n ignored w = clash (sym w)
+ground-record p n (link m) w = clash (sym w)
+ground-record p n (capability a b s) w = refl
 
-ground-records : (fs : List Field) → AllWin (texts fs) → recordList (placed 0 (texts fs)) ≡ map atPlaceZero (recordList fs)
+ground-records : (fs : List Field) → AllWin (texts fs) → recordList (placed 0 0 (texts fs)) ≡ map atPlaceZero (recordList fs)
 unfolding recordList placed texts
 ground-records [] h = refl
-ground-records (f ∷ fs) h = rw (ground-record (f .place) (reading (f .text)) (h .0), ground-records fs (h .2))
+ground-records (f ∷ fs) h = rw (ground-record (f .place) (f .file) (reading (f .text)) (h .0), ground-records fs (h .2))
 
 -- ---- how often a pair with a value is in a listing
 
@@ -191,13 +192,13 @@ both-fewer false y = omega arith
 no-more-often : (id : List ℕ) (k v : ℕ) (rs : List (List ℕ)) → occurrences id k v rs ≤ pairs id k rs
 unfolding occurrences pairs tells
 no-more-often id k v [] = omega arith
-no-more-often id k v (r ∷ rs) = omega (arith, both-fewer (isOf id k r) (eqb (bigEndian 0 (drop 4 r)) v), no-more-often id k v rs)
+no-more-often id k v (r ∷ rs) = omega (arith, both-fewer (isOf id k r) (eqb (bigEndian 0 (take 4 (drop 4 r))) v), no-more-often id k v rs)
 
 module _ (id : List ℕ) (k : ℕ) where
   pair-here : (f : Field) (fs : List Field) → canWin (reading (f .text)) ≡ true
       → pairs id k (recordList (f ∷ fs)) ≡ pick (matches id k (reading (f .text))) 1 0 + pairs id k (recordList fs)
   unfolding pairs recordList
-  pair-here f fs w = rw (is-of-record id k (f .place) (reading (f .text)) w)
+  pair-here f fs w = rw (is-of-record id k (f .place) (f .file) (reading (f .text)) w)
 
   no-pair : (r : Reading) → matches id k r ≡ true → (fs : List Field) → AllWin (texts fs) → Clear r (texts fs) → pairs id k (recordList fs) ≡ 0
   unfolding texts
@@ -226,7 +227,7 @@ module _ (id : List ℕ) (k v : ℕ) where
       → occurrences id k v (recordList (f ∷ fs)) ≡ pick (both (matches id k (reading (f .text))) (eqb (valueOf (reading (f .text))) v)) 1 0 + occurrences id k
       v (recordList fs)
   unfolding occurrences recordList
-  here f fs w s = rw (tells-record id k v (f .place) (reading (f .text)) w s)
+  here f fs w s = rw (tells-record id k v (f .place) (f .file) (reading (f .text)) w s)
 
   no-more : (r : Reading) → matches id k r ≡ true → (fs : List Field) → AllWin (texts fs) → Clear r (texts fs) → occurrences id k v (recordList fs) ≡ 0
   no-more r e fs w c = omega (arith, no-more-often id k v (recordList fs), no-pair id k r e fs w c)
@@ -294,7 +295,7 @@ string-answer id (terminal names fs) lent h = go (lookup id 3 fs) refl h
         ap (λ (o : Outcome Written). presented (o .answer)) (put-room (bytesOf (reading t)) (length (bytesOf (reading t))) lent (λ f. h (ap presented f)))
         ∙ ap Present (string-length id (reading t) (lookup-matches id 3 fs t e))
 
-pub question-answer : (k : Kind) (db name id lent : List ℕ) → QuestionHasRoom (question k db name id lent) → question k db name id lent ≡ answerFor id k
+pub question-answer : (k : Kind) (db : Files) (name id lent : List ℕ) → QuestionHasRoom (question k db name id lent) → question k db name id lent ≡ answerFor id k
     (terminalFor db name id)
 unfolding flagAnswer numberAnswer stringOutcome
 question-answer Flag db name id lent h = refl
@@ -303,7 +304,7 @@ question-answer String db name id lent h = string-answer id (terminalFor db name
 
 -- ---- the demand
 
-module _ (db name names : List ℕ) (fs : List Field) (accepted : Accepted db name names fs) where
+module _ (db : Files) (name names : List ℕ) (fs : List Field) (accepted : Accepted db name names fs) where
   wins : AllWin (texts (winning fs))
   wins = winning-wins fs
 
@@ -336,7 +337,8 @@ module _ (db name names : List ℕ) (fs : List Field) (accepted : Accepted db na
   asked-answer : (k : Kind) (id : List ℕ) (v : ℕ) → (answerFor id k (terminalFor db name id) ≡ Present v) ↔
       (hitAnswer (lookup id (kindNumber k) fs) ≡ Present v)
   unfolding answerFor hitAnswer
-  asked-answer k id v = rw (asked-is db name names fs accepted db id, accepted) (go (goodId id) refl (lookup id (kindNumber k) fs) refl)
+  asked-answer k id v = rw (asked-is db name names fs accepted db id (opened-ends db name names fs accepted), accepted)
+      (go (goodId id) refl (lookup id (kindNumber k) fs) refl)
     where
       go : (x : Bool) → goodId id ≡ x → (y : Hit) → lookup id (kindNumber k) fs ≡ y →
           (answerFor id k (pick x (terminal names fs) (refused BadId)) ≡ Present v) ↔ (hitAnswer y ≡ Present v)
@@ -366,14 +368,14 @@ module _ (db name names : List ℕ) (fs : List Field) (accepted : Accepted db na
       }
     where
       relisted : (lent : List ℕ) → HasRoom (listOutcome db name lent .answer)
-          → (listOutcome (flatText names fs) name lent .answer ≡ listOutcome db name lent .answer)
-          × (listed (listOutcome (flatText names fs) name lent) ≡ map atPlaceZero (listed (listOutcome db name lent)))
+          → (listOutcome (alone (flatText names fs)) name lent .answer ≡ listOutcome db name lent .answer)
+          × (listed (listOutcome (alone (flatText names fs)) name lent) ≡ map atPlaceZero (listed (listOutcome db name lent)))
       relisted lent q =
-          let zs : List Field = placed 0 (texts (winning fs)) in
-          let n : length zs ≡ length (winning fs) = placed-length 0 (winning fs) in
-          let w : AllWin (texts zs) = rw (texts-placed 0 (texts (winning fs))) wins in
+          let zs : List Field = placed 0 0 (texts (winning fs)) in
+          let n : length zs ≡ length (winning fs) = placed-length 0 0 (winning fs) in
+          let w : AllWin (texts zs) = rw (texts-placed 0 0 (texts (winning fs))) wins in
           let l : length (records zs) ≡ length (records (winning fs)) = omega (arith, n, records-length zs w, records-length (winning fs) wins) in
-          let p : listOutcome (flatText names fs) name lent ≡ put (records zs) (length zs) lent = list-same db name names fs accepted lent in
+          let p : listOutcome (alone (flatText names fs)) name lent ≡ put (records zs) (length zs) lent = list-same db name names fs accepted lent in
           let a : put (records zs) (length zs) lent .answer ≡ listOutcome db name lent .answer =
           rw (n, list-is lent) (put-like (records zs) (records (winning fs)) (length (winning fs)) lent l) in
           (rw p a, ap listed p ∙ put-listed zs lent w (rw a q) ∙ ground-records (winning fs) wins ∙ ap (map atPlaceZero) (sym (listed-is lent q)))

@@ -3,6 +3,8 @@ pub mod Padding
 pub mod Raising
 pub mod Winning
 pub mod Demand3
+pub mod OneFile
+pub mod UnreadBytes
 pub mod Limits
 pub mod Room
 pub mod SoundWalks

@@ -15,7 +15,6 @@ use Rattle.spec.proofs.Tests.{clash}
 use Rattle.spec.specs.Lines.{Text, end, byte, join, textAt, Line, lineText, laterLines, isIgnored, hasName, find, findLine, lineAt}
 use Rattle.spec.specs.Fields.{Reading, malformed, ignored, link, capability, reading, Verdict, malformedLine, noLink, linkTo, verdict}
 use Rattle.spec.specs.Lists.{upto}
-use Rattle.spec.specs.Chain.{linkTarget}
 use Rattle.spec.specs.declared.Found.{Found}
 use Rattle.spec.specs.declared.Found.the-variants.{At, Nothing}
 use Rattle.spec.specs.Repair.{
@@ -37,6 +36,7 @@ use Rattle.spec.specs.Repair.{
   linkRemovals,
   mended,
 }
+use Rattle.demands.specs.OneFile.{target}
 use Rattle.demands.specs.RepairPromises.{along, EachDescription, Sound}
 use Rattle.spec.proofs.LinkRings.{Fresh, Distinct, distinct-mid, leads-own, standing, back-here, back-on, standing-acyclic}
 use Rattle.spec.proofs.RisingLines.{Rising, rising-left, rising-lines, links-distinct}
@@ -360,13 +360,13 @@ module _ (db : List ℕ) where
 
   -- along the mended database, and along the links that stand
   along-back : (h k : ℕ) → In h k ds ms → (n p q : ℕ) → In p q ds ms → along text n (At q) ≡ At k → comesBack stand (suc n) h (At p) ≡ true
-  unfolding along linkTarget
+  unfolding along target
   along-back h k j zero p q i e =
       let s : q ≡ k = cc in
       back-here h stand 0 p (in-one 0 ds ms p h q (rising-lines text) i (rw s j))
   along-back h k j (suc n) p q i e = go (verdict (lineAt text q)) refl e (along-back h k j n)
     where
-      go : (v : Verdict) → verdict (lineAt text q) ≡ v → along text n (linkTarget text q v) ≡ At k
+      go : (v : Verdict) → verdict (lineAt text q) ≡ v → along text n (target text v) ≡ At k
           → ((p q : ℕ) → In p q ds ms → along text n (At q) ≡ At k → comesBack stand (suc n) h (At p) ≡ true) → comesBack stand (suc (suc n)) h (At p) ≡ true
       go malformedLine v w ih = absurd (along-nothing n k w)
       go noLink v w ih = absurd (along-nothing n k w)
@@ -375,10 +375,10 @@ module _ (db : List ℕ) where
           back-on h stand (suc n) p (rw (o .3) (ih (o .0) (o .1) (o .4) (rw (o .2) at w)))
 
   no-ring : (p q : ℕ) → In p q ds ms → (n : ℕ) → along text (suc n) (At q) ≡ At q → ⊥
-  unfolding along linkTarget
+  unfolding along target
   no-ring p q i n e = go (verdict (lineAt text q)) refl e
     where
-      go : (v : Verdict) → verdict (lineAt text q) ≡ v → along text n (linkTarget text q v) ≡ At q → ⊥
+      go : (v : Verdict) → verdict (lineAt text q) ≡ v → along text n (target text v) ≡ At q → ⊥
       go malformedLine v w = along-nothing n q w
       go noLink v w = along-nothing n q w
       go (linkTo name) v w =

@@ -9,7 +9,8 @@ use borrow.Author.Tests.{le-leb}
 use lib.Dec.{eqb, leb, ltb}
 use lib.ListN.{length}
 use Rattle.spec.specs.Choice.{pick, both, either}
-use Rattle.spec.specs.Lines.{blank, findLine, lineAt}
+use Rattle.spec.specs.Lines.{blank}
+use Rattle.spec.specs.Files.{Files, goodEnds, contents, lineOf, findFrom}
 use Rattle.spec.specs.Refusals.{refusalNumber, goodName, goodId, tooLarge, idBytes, isTc}
 use Rattle.spec.specs.Strings.{Decoded, bad, good, plain, decode}
 use Rattle.spec.specs.Fields.{
@@ -44,10 +45,11 @@ use Rattle.spec.specs.Padding.{Prefix, Split, split, prefixOf, delayFor, padCou
 use Rattle.spec.specs.Answers.{Outcome, keeping, put}
 use Rattle.spec.specs.Questions.{terminalOf, terminalFor, presented, decodedOutcome, stringFor, stringOutcome}
 use Rattle.spec.specs.Listing.{records, listFor, listOutcome, flatText, flatFor, flatOutcome}
-use Rattle.spec.specs.declared.Found.{Found}
-use Rattle.spec.specs.declared.Found.the-variants.{At, Nothing}
+use Rattle.spec.specs.declared.Location.{Location}
+use Rattle.spec.specs.declared.Located.{Located}
+use Rattle.spec.specs.declared.Located.the-variants.{At, Nothing}
 use Rattle.spec.specs.declared.Refusal.{Refusal}
-use Rattle.spec.specs.declared.Refusal.the-variants.{BadName, BadId, DatabaseTooLarge, UnknownName, LostLink, Malformed, Cycle, ChainTooLarge, NoRoom}
+use Rattle.spec.specs.declared.Refusal.the-variants.{BadName, BadId, DatabaseTooLarge, UnknownName, LostLink, Malformed, Cycle, ChainTooLarge, NoRoom, BadEnds}
 use Rattle.spec.specs.declared.Answer.{Answer}
 use Rattle.spec.specs.declared.Answer.the-variants.{Present, Absent, Refused as NotAnswered}
 use Rattle.spec.specs.declared.Written.{Written}
@@ -61,54 +63,65 @@ use Rattle.spec.proofs.PaddingLaws.{Splits, delay-below}
 use Rattle.demands.specs.Demand3.{HasRoom, QuestionHasRoom}
 use Rattle.demands.specs.Room.{EnoughRoom}
 
--- ---- the refusals of a terminal are 1 to 8
+-- ---- the refusals of a chain are 4 to 8; no refusal of a terminal is 9
 
 abbrev Early : Chain → Type 0
 Early (broken r) = refusalNumber r ≤ 8
 Early (chain ps) = Unit {0}
 
-entered-early : (places : List ℕ) (v : Verdict) (big : Bool) (more : Chain) → Early more → Early (entered places v big more)
+entered-early : (places : List Location) (v : Verdict) (big : Bool) (more : Chain) → Early more → Early (entered places v big more)
 unfolding entered
 entered-early places malformedLine big more h = omega arith
 entered-early places noLink big more h = pick-all Early big (omega arith) tt
 entered-early places (linkTo name) big more h = pick-all Early big (omega arith) h
 
-follow-early : (db : List ℕ) (n : ℕ) (passed : List ℕ) (size : ℕ) (missing : Refusal) (found : Found) → refusalNumber missing ≤ 8
+follow-early : (db : List (List ℕ)) (n : ℕ) (passed : List Location) (size : ℕ) (missing : Refusal) (found : Located) → refusalNumber missing ≤ 8
     → Early (follow db n passed size missing found)
 unfolding follow
 follow-early db zero passed size missing Nothing h = h
 follow-early db zero passed size missing (At p) h = pick-all Early (visited p passed) (omega arith) (omega arith)
 follow-early db (suc n) passed size missing Nothing h = h
 follow-early db (suc n) passed size missing (At p) h =
-    let total = size + lineSize (lineAt db p) in
-    let said = verdict (lineAt db p) in
+    let total = size + lineSize (lineOf db p) in
+    let said = verdict (lineOf db p) in
     pick-all Early (visited p passed) (omega arith)
     (entered-early (passed ++ p ∷ []) said (ltb 16384 total) _
     (follow-early db n (passed ++ p ∷ []) total LostLink (linkTarget db p said) (omega arith)))
 
 abbrev EarlyTerminal : Terminal → Type 0
-EarlyTerminal (refused r) = refusalNumber r ≤ 8
+EarlyTerminal (refused r) = r ≡ NoRoom → ⊥
 EarlyTerminal (terminal names fs) = Unit {0}
-
-described-early : (db : List ℕ) (c : Chain) → Early c → EarlyTerminal (described db c)
-unfolding described
-described-early db (broken r) h = h
-described-early db (chain ps) h = tt
-
-terminal-early : (db name : List ℕ) → EarlyTerminal (terminalOf db name)
-unfolding terminalOf resolve walk
-terminal-early db name =
-    pick-all EarlyTerminal (goodName name)
-    (pick-all EarlyTerminal (tooLarge db) (omega arith)
-    (described-early db (follow db 32 [] 0 UnknownName (findLine db name)) (follow-early db 32 [] 0 UnknownName (findLine db name) (omega arith))))
-    (omega arith)
-
-asked-early : (db name id : List ℕ) → EarlyTerminal (terminalFor db name id)
-unfolding terminalFor
-asked-early db name id = pick-all EarlyTerminal (goodName name) (pick-all EarlyTerminal (goodId id) (terminal-early db name) (omega arith)) (omega arith)
 
 early-room : (r : Refusal) → refusalNumber r ≤ 8 → r ≡ NoRoom → ⊥
 early-room r h e = omega (arith, h, ap refusalNumber e)
+
+described-early : (db : List (List ℕ)) (c : Chain) → Early c → EarlyTerminal (described db c)
+unfolding described
+described-early db (broken r) h = early-room r h
+described-early db (chain ps) h = tt
+
+bad-ends : BadEnds ≡ NoRoom → ⊥
+bad-ends e = omega (arith, ap refusalNumber e)
+
+terminal-early : (db : Files) (name : List ℕ) → EarlyTerminal (terminalOf db name)
+unfolding terminalOf resolve walk
+terminal-early db name =
+    let fs = contents db in
+    let found = findFrom fs 0 name in
+    pick-all EarlyTerminal (goodEnds db)
+    (pick-all EarlyTerminal (goodName name)
+    (pick-all EarlyTerminal (tooLarge (db .bytes)) (early-room DatabaseTooLarge (omega arith))
+    (described-early fs (follow fs 32 [] 0 UnknownName found) (follow-early fs 32 [] 0 UnknownName found (omega arith))))
+    (early-room BadName (omega arith)))
+    bad-ends
+
+asked-early : (db : Files) (name id : List ℕ) → EarlyTerminal (terminalFor db name id)
+unfolding terminalFor
+asked-early db name id =
+    pick-all EarlyTerminal (goodEnds db)
+    (pick-all EarlyTerminal (goodName name)
+    (pick-all EarlyTerminal (goodId id) (terminal-early db name) (early-room BadId (omega arith))) (early-room BadName (omega arith)))
+    bad-ends
 
 -- ---- what fits is written
 
@@ -119,10 +132,10 @@ put-fits bytes n buffer h = rw (le-leb (length bytes) (length buffer) h)
 count-room : (w : Written) (n : ℕ) → w ≡ Count n → HasRoom w
 count-room w n e h = let z : _≡_ {A = ℕ} 0 1 = let f : Count n ≡ Refused NoRoom = sym e ∙ h in cc in omega arith
 
-refused-room : (r : Refusal) → refusalNumber r ≤ 8 → HasRoom (Refused r)
-refused-room r h e = early-room r h (let f : r ≡ NoRoom = cc in f)
+refused-room : (r : Refusal) → (r ≡ NoRoom → ⊥) → HasRoom (Refused r)
+refused-room r h e = h (let f : r ≡ NoRoom = cc in f)
 
-list-room : (db name buffer : List ℕ) → 43680 ≤ length buffer → HasRoom (listOutcome db name buffer .answer)
+list-room : (db : Files) (name buffer : List ℕ) → 65520 ≤ length buffer → HasRoom (listOutcome db name buffer .answer)
 unfolding listOutcome listFor
 list-room db name buffer h = go (terminalOf db name) refl (terminal-early db name)
   where
@@ -132,7 +145,7 @@ list-room db name buffer h = go (terminalOf db name) refl (terminal-early db nam
         let b = accepted-bounded db name names fs e in
         count-room _ _ (put-fits (records (winning fs)) (length (winning fs)) buffer (omega (arith, b .record-bytes, h)))
 
-flat-room : (db name buffer : List ℕ) → 16385 ≤ length buffer → HasRoom (flatOutcome db name buffer .answer)
+flat-room : (db : Files) (name buffer : List ℕ) → 16385 ≤ length buffer → HasRoom (flatOutcome db name buffer .answer)
 unfolding flatOutcome flatFor
 flat-room db name buffer h = go (terminalOf db name) refl (terminal-early db name)
   where
@@ -210,21 +223,23 @@ bytes-short t = go (reading t) refl
     go (capability a b (string l)) e = reading-fits t a b l e
 
 -- a question's terminal that is not refused is that of the name
-asked-accepted : (db name id names : List ℕ) (fs : List Field) → terminalFor db name id ≡ terminal names fs → terminalOf db name ≡ terminal names fs
+asked-accepted : (db : Files) (name id names : List ℕ) (fs : List Field) → terminalFor db name id ≡ terminal names fs → terminalOf db name ≡ terminal names fs
 unfolding terminalFor
-asked-accepted db name id names fs = go (goodName name) (goodId id)
+asked-accepted db name id names fs = go (goodEnds db) (goodName name) (goodId id)
   where
-    go : (x y : Bool) → pick x (pick y (terminalOf db name) (refused BadId)) (refused BadName) ≡ terminal names fs → terminalOf db name ≡ terminal names fs
-    go true true e = e
-    go true false e = let z : _≡_ {A = ℕ} 0 1 = cc in absurd (omega arith)
-    go false y e = let z : _≡_ {A = ℕ} 0 1 = cc in absurd (omega arith)
+    go : (w x y : Bool) → pick w (pick x (pick y (terminalOf db name) (refused BadId)) (refused BadName)) (refused BadEnds) ≡ terminal names fs
+        → terminalOf db name ≡ terminal names fs
+    go true true true e = e
+    go true true false e = let z : _≡_ {A = ℕ} 0 1 = cc in absurd (omega arith)
+    go true false y e = let z : _≡_ {A = ℕ} 0 1 = cc in absurd (omega arith)
+    go false x y e = let z : _≡_ {A = ℕ} 0 1 = cc in absurd (omega arith)
 
-string-room : (db name id buffer : List ℕ) → 16384 ≤ length buffer → QuestionHasRoom (stringOutcome db name id buffer .answer)
+string-room : (db : Files) (name id buffer : List ℕ) → 16384 ≤ length buffer → QuestionHasRoom (stringOutcome db name id buffer .answer)
 unfolding stringOutcome stringFor decodedOutcome
 string-room db name id buffer h = go (terminalFor db name id) refl (asked-early db name id)
   where
     go : (t : Terminal) → terminalFor db name id ≡ t → EarlyTerminal t → QuestionHasRoom (stringFor id t buffer .answer)
-    go (refused r) e k = λ q. early-room r k (let f : r ≡ NoRoom = cc in f)
+    go (refused r) e k = λ q. k (let f : r ≡ NoRoom = cc in f)
     go (terminal names fs) e k = found (lookup id 3 fs) refl
       where
         found : (x : Hit) → lookup id 3 fs ≡ x → QuestionHasRoom (decodedOutcome x buffer .answer)

@@ -31,7 +31,6 @@ use Rattle.spec.specs.Fields.{
   verdict,
 }
 use Rattle.spec.proofs.Judging.{judge-nil, judge-malformed, judge-ignored, judge-entry, judge-link, judge-after, verdict-colon, verdict-none}
-use Rattle.spec.specs.Chain.{linkTarget}
 use Rattle.spec.specs.declared.Found.{Found}
 use Rattle.spec.specs.declared.Found.the-variants.{At, Nothing}
 use Rattle.spec.specs.Repair.{
@@ -65,6 +64,7 @@ use Rattle.spec.specs.Repair.{
   mended,
   ownBytes,
 }
+use Rattle.demands.specs.OneFile.{target}
 use Rattle.demands.specs.RepairPromises.{along, EachDescription, Sound}
 use Rattle.spec.proofs.Chunks.{LineByLine, last, more, lineOf, line-by-line}
 use Rattle.spec.proofs.KeptFields.{cutTexts, split-pieced, pieces-pieced, pieces-flat}
@@ -187,8 +187,8 @@ link-plain : (l : List ℕ) → isIgnored l ≡ false → lineLink l ≡ linkOf 
 unfolding lineLink
 link-plain l i = rw i
 
-target-is : (db : List ℕ) (p : ℕ) (name : List ℕ) → verdict (lineAt db p) ≡ linkTo name → linkTarget db p (verdict (lineAt db p)) ≡ findLine db name
-unfolding linkTarget
+target-is : (db : List ℕ) (p : ℕ) (name : List ℕ) → verdict (lineAt db p) ≡ linkTo name → target db (verdict (lineAt db p)) ≡ findLine db name
+unfolding target
 target-is db p name v = rw v
 
 searched : (db name : List ℕ) → find name (linesOf db) ≡ findLine db name
@@ -200,13 +200,13 @@ module _ (db : List ℕ) (sound : Sound db) where
   ls = linesOf db
 
   -- where the link of a line leads in document 01's walk
-  abbrev target : ℕ → Found
-  target p = linkTarget db p (verdict (lineAt db p))
+  abbrev onward : ℕ → Found
+  onward p = target db (verdict (lineAt db p))
 
   -- the links of the third pass lead there, and are found, and do not come back
   abbrev Fine : List Link → Type 0
   Fine [] = Unit {0}
-  Fine (k ∷ ks) = ((k .to ≡ target (k .at)) × (k .to ≡ Nothing → ⊥) × ((n : ℕ) → along db (suc n) (At (k .at)) ≡ At (k .at) → ⊥)) × Fine ks
+  Fine (k ∷ ks) = ((k .to ≡ onward (k .at)) × (k .to ≡ Nothing → ⊥) × ((n : ℕ) → along db (suc n) (At (k .at)) ≡ At (k .at) → ⊥)) × Fine ks
 
   fine-with : (l : Line) (ks : List Link) → (isIgnored (l .text) ≡ false → (lineLink (l .text) ≡ verdict (lineAt db (l .start)))
       × ((name : List ℕ) → verdict (lineAt db (l .start)) ≡ linkTo name → findLine db name ≡ Nothing → ⊥)
@@ -236,12 +236,12 @@ module _ (db : List ℕ) (sound : Sound db) where
           × ((n : ℕ) → along db (suc n) (At (l .start)) ≡ At (l .start) → ⊥)
       here i = (link-plain (l .text) i ∙ clean (l .text) (p .0 i) .1 ∙ ap verdict (t .0), a .0 i, c .0 i)
 
-  leads-target : (ks : List Link) → Fine ks → (p q : ℕ) → leads ks p ≡ At q → target p ≡ At q
+  leads-target : (ks : List Link) → Fine ks → (p q : ℕ) → leads ks p ≡ At q → onward p ≡ At q
   unfolding leads
   leads-target [] f p q e = let z : _≡_ {A = ℕ} 0 1 = cc in absurd (omega arith)
   leads-target (k ∷ ks) f p q e = go (eqb (k .at) p) refl e (leads-target ks (f .1) p q)
     where
-      go : (x : Bool) → eqb (k .at) p ≡ x → pick x (k .to) (leads ks p) ≡ At q → (leads ks p ≡ At q → target p ≡ At q) → target p ≡ At q
+      go : (x : Bool) → eqb (k .at) p ≡ x → pick x (k .to) (leads ks p) ≡ At q → (leads ks p ≡ At q → onward p ≡ At q) → onward p ≡ At q
       go true s w ih = rw (← eqb-true (k .at) p s) (sym (f .0 .0) ∙ w)
       go false s w ih = ih w
 
@@ -269,7 +269,7 @@ module _ (db : List ℕ) (sound : Sound db) where
       go false s w ih = on (leads ks p) refl w ih
 
   kept-reason : (ks : List Link) → Fine ks → (k : Link)
-      → (k .to ≡ target (k .at)) × (k .to ≡ Nothing → ⊥) × ((n : ℕ) → along db (suc n) (At (k .at)) ≡ At (k .at) → ⊥)
+      → (k .to ≡ onward (k .at)) × (k .to ≡ Nothing → ⊥) × ((n : ℕ) → along db (suc n) (At (k .at)) ≡ At (k .at) → ⊥)
       → linkReason ks (k .at) (k .to) ≡ 0
   unfolding linkReason along
   kept-reason ks f k h = go (k .to) refl

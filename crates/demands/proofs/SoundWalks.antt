@@ -13,14 +13,17 @@ use Rattle.spec.proofs.Tests.{both-true, not-is-true}
 use Rattle.spec.specs.Refusals.{goodName, tooLarge, refusalNumber}
 use Rattle.spec.specs.Lines.{Line, isIgnored, hasName, find, findLine, lineAt}
 use Rattle.spec.specs.Fields.{Verdict, malformedLine, noLink, linkTo, lineSize, verdict}
-use Rattle.spec.specs.Chain.{Chain, broken, chain, visited, linkTarget, entered, follow, walk, refused, described, resolve}
+use Rattle.spec.specs.Files.{alone}
+use Rattle.spec.specs.Chain.{refused}
 use Rattle.spec.specs.Questions.{terminalOf}
 use Rattle.spec.specs.Repair.{linesOf}
 use Rattle.spec.specs.declared.Found.{Found}
 use Rattle.spec.specs.declared.Found.the-variants.{At, Nothing}
 use Rattle.spec.specs.declared.Refusal.{Refusal}
 use Rattle.spec.specs.declared.Refusal.the-variants.{BadName, DatabaseTooLarge, UnknownName, LostLink, Malformed, Cycle, ChainTooLarge}
+use Rattle.demands.specs.OneFile.{PlaceChain, broken, chain, passed, target, reached, followed, terminalAt, terminalBefore}
 use Rattle.demands.specs.RepairPromises.{along, EachDescription, Sound, Breaks}
+use Rattle.demands.proofs.OneFile.{terminal-alone}
 
 -- ---- what holds of each description holds of one that is found
 
@@ -50,20 +53,20 @@ outside t r s n (inr (inr e)) = let z : t ≡ Cycle = s ∙ e in rw z at n (omeg
 not-large : (r : Refusal) → broken ChainTooLarge ≡ broken r → Breaks r → ⊥
 not-large r e b = let s : ChainTooLarge ≡ r = cc in outside ChainTooLarge r s (λ k m. omega arith) b
 
-described-broken : (db : List ℕ) (t r : Refusal) → described db (broken t) ≡ refused r → t ≡ r
-unfolding described
-described-broken db t r e = cc
+terminal-broken : (db : List ℕ) (t r : Refusal) → terminalAt db (broken t) ≡ refused r → t ≡ r
+unfolding terminalAt
+terminal-broken db t r e = cc
 
-described-chain : (db ps : List ℕ) (r : Refusal) → described db (chain ps) ≡ refused r → ⊥
-unfolding described
-described-chain db ps r e = let z : _≡_ {A = ℕ} 0 1 = cc in omega arith
+terminal-chain : (db ps : List ℕ) (r : Refusal) → terminalAt db (chain ps) ≡ refused r → ⊥
+unfolding terminalAt
+terminal-chain db ps r e = let z : _≡_ {A = ℕ} 0 1 = cc in omega arith
 
 -- ---- the walk
 
 module _ (db : List ℕ) (sound : Sound db) where
   abbrev next : Found → Found
   next Nothing = Nothing
-  next (At p) = linkTarget db p (verdict (lineAt db p))
+  next (At p) = target db (verdict (lineAt db p))
 
   -- one link more
   along-more : (n : ℕ) (f : Found) → along db (suc n) f ≡ next (along db n f)
@@ -71,7 +74,7 @@ module _ (db : List ℕ) (sound : Sound db) where
   along-more zero Nothing = refl
   along-more zero (At p) = refl
   along-more (suc n) Nothing = refl
-  along-more (suc n) (At p) = along-more n (linkTarget db p (verdict (lineAt db p)))
+  along-more (suc n) (At p) = along-more n (target db (verdict (lineAt db p)))
 
   along-none : (f : Found) → along db 0 f ≡ f
   unfolding along
@@ -87,12 +90,12 @@ module _ (db : List ℕ) (sound : Sound db) where
   lead-on p (q ∷ qs) h = ((suc (h .0 .0), along-more (suc (h .0 .0)) (At q) ∙ ap next (h .0 .1)), lead-on p qs (h .1))
 
   -- a line that was passed is not found again
-  new : (p : ℕ) (qs : List ℕ) → Lead qs (At p) → ((n : ℕ) → along db (suc n) (At p) ≡ At p → ⊥) → visited p qs ≡ false
-  unfolding visited
+  new : (p : ℕ) (qs : List ℕ) → Lead qs (At p) → ((n : ℕ) → along db (suc n) (At p) ≡ At p → ⊥) → passed p qs ≡ false
+  unfolding passed
   new p [] h c = refl
   new p (q ∷ qs) h c = go (eqb p q) refl (new p qs (h .1) c)
     where
-      go : (x : Bool) → eqb p q ≡ x → visited p qs ≡ false → either x (visited p qs) ≡ false
+      go : (x : Bool) → eqb p q ≡ x → passed p qs ≡ false → either x (passed p qs) ≡ false
       go true e ih = absurd (c (h .0 .0) (ap (λ (q : ℕ). along db (suc (h .0 .0)) (At q)) (eqb-true p q e) ∙ h .0 .1))
       go false e ih = ih
 
@@ -114,47 +117,49 @@ module _ (db : List ℕ) (sound : Sound db) where
   ready name Nothing e n = absurd (n refl)
   ready name (At p) e n = fine name p e
 
-  followed : (room : ℕ) (qs : List ℕ) (size : ℕ) (missing : Refusal) (f : Found) → Lead qs f → Ready missing f
-      → (r : Refusal) → follow db room qs size missing f ≡ broken r → Breaks r → ⊥
-  unfolding follow entered linkTarget
-  followed zero qs size missing Nothing l h r e b = let s : missing ≡ r = cc in h (rw s b)
-  followed zero qs size missing (At p) l h r e b =
+  no-break : (room : ℕ) (qs : List ℕ) (size : ℕ) (missing : Refusal) (f : Found) → Lead qs f → Ready missing f
+      → (r : Refusal) → followed db room qs size missing f ≡ broken r → Breaks r → ⊥
+  unfolding followed reached target
+  no-break zero qs size missing Nothing l h r e b = let s : missing ≡ r = cc in h (rw s b)
+  no-break zero qs size missing (At p) l h r e b =
       let full : broken ChainTooLarge ≡ broken r = rw (new p qs l (h .2)) at e in
       not-large r full b
-  followed (suc room) qs size missing Nothing l h r e b = let s : missing ≡ r = cc in h (rw s b)
-  followed (suc room) qs size missing (At p) l h r e b =
+  no-break (suc room) qs size missing Nothing l h r e b = let s : missing ≡ r = cc in h (rw s b)
+  no-break (suc room) qs size missing (At p) l h r e b =
       let total = size + lineSize (lineAt db p) in
-      go (verdict (lineAt db p)) refl (ltb 16384 total) (followed room (qs ++ p ∷ []) total LostLink) (lead-on p qs l)
+      go (verdict (lineAt db p)) refl (ltb 16384 total) (no-break room (qs ++ p ∷ []) total LostLink) (lead-on p qs l)
       (rw (new p qs l (h .2)) at e)
     where
       go : (v : Verdict) → verdict (lineAt db p) ≡ v → (big : Bool)
           → ((f : Found) → Lead (qs ++ p ∷ []) f → Ready LostLink f → (r : Refusal)
-          → follow db room (qs ++ p ∷ []) (size + lineSize (lineAt db p)) LostLink f ≡ broken r → Breaks r → ⊥)
-          → Lead (qs ++ p ∷ []) (linkTarget db p (verdict (lineAt db p)))
-          → entered (qs ++ p ∷ []) (verdict (lineAt db p)) big
-          (follow db room (qs ++ p ∷ []) (size + lineSize (lineAt db p)) LostLink (linkTarget db p (verdict (lineAt db p)))) ≡ broken r → ⊥
+          → followed db room (qs ++ p ∷ []) (size + lineSize (lineAt db p)) LostLink f ≡ broken r → Breaks r → ⊥)
+          → Lead (qs ++ p ∷ []) (target db (verdict (lineAt db p)))
+          → reached (qs ++ p ∷ []) (verdict (lineAt db p)) big
+          (followed db room (qs ++ p ∷ []) (size + lineSize (lineAt db p)) LostLink (target db (verdict (lineAt db p)))) ≡ broken r → ⊥
       go malformedLine s big ih k q = h .0 s
       go noLink s true ih k q = let w = rw s at q in not-large r w b
       go noLink s false ih k q = let w = rw s at q in let z : _≡_ {A = ℕ} 0 1 = cc in absurd (omega arith)
       go (linkTo name) s true ih k q = let w = rw s at q in not-large r w b
       go (linkTo name) s false ih k q = ih (findLine db name) (rw s at k) (ready name (findLine db name) refl (h .1 name s)) r (rw s at q) b
 
-  pub walk-sound : (name : List ℕ) (r : Refusal) → walk db name ≡ broken r → Breaks r → ⊥
-  unfolding walk
-  walk-sound name r e b = followed 32 [] 0 UnknownName (findLine db name) tt (first (findLine db name) refl) r e b
+  abbrev walk : List ℕ → PlaceChain
+  walk name = followed db 32 [] 0 UnknownName (findLine db name)
+
+  walk-sound : (name : List ℕ) (r : Refusal) → walk name ≡ broken r → Breaks r → ⊥
+  walk-sound name r e b = no-break 32 [] 0 UnknownName (findLine db name) tt (first (findLine db name) refl) r e b
     where
       first : (f : Found) → findLine db name ≡ f → Ready UnknownName f
       first Nothing s = outside UnknownName UnknownName refl (λ k m. omega arith)
       first (At p) s = fine name p s
 
   -- "NO NAME IS REFUSED WITH 5, 6 OR 7"
-  pub terminal-sound : (name : List ℕ) (r : Refusal) → terminalOf db name ≡ refused r → Breaks r → ⊥
-  unfolding terminalOf resolve
-  terminal-sound name r e b = go (goodName name) (tooLarge db) (walk db name) refl e
+  pub terminal-sound : (name : List ℕ) (r : Refusal) → terminalOf (alone db) name ≡ refused r → Breaks r → ⊥
+  unfolding terminalBefore
+  terminal-sound name r e b = go (goodName name) (tooLarge db) (walk name) refl (rw (terminal-alone db name) at e)
     where
-      go : (x y : Bool) (w : Chain) → walk db name ≡ w
-          → pick x (pick y (refused DatabaseTooLarge) (described db (walk db name))) (refused BadName) ≡ refused r → ⊥
+      go : (x y : Bool) (w : PlaceChain) → walk name ≡ w
+          → pick x (pick y (refused DatabaseTooLarge) (terminalAt db (walk name))) (refused BadName) ≡ refused r → ⊥
       go true true w s q = let z : DatabaseTooLarge ≡ r = cc in outside DatabaseTooLarge r z (λ k m. omega arith) b
-      go true false (broken t) s q = let u = rw s at q in let z : t ≡ r = described-broken db t r u in walk-sound name r (s ∙ ap broken z) b
-      go true false (chain ps) s q = described-chain db ps r (rw s at q)
+      go true false (broken t) s q = let u = rw s at q in let z : t ≡ r = terminal-broken db t r u in walk-sound name r (s ∙ ap broken z) b
+      go true false (chain ps) s q = terminal-chain db ps r (rw s at q)
       go false y w s q = let z : BadName ≡ r = cc in outside BadName r z (λ k m. omega arith) b

@@ -5,6 +5,7 @@ use mathlib.Core.List.{List, [], _∷_}
 use lib.Dec.{eqb}
 use lib.ListN.{length}
 use Rattle.spec.specs.Choice.{pick}
+use Rattle.spec.specs.Files.{Files}
 use Rattle.spec.specs.Fields.{kindOf}
 use Rattle.spec.specs.Batch.{answerBytes, batchOutcome}
 use Rattle.spec.specs.declared.Numbered.{Numbered}
@@ -24,11 +25,11 @@ questions (a ∷ b ∷ k ∷ []) = []
 questions (a ∷ b ∷ k ∷ z ∷ qs) = (a ∷ b ∷ k ∷ z ∷ []) ∷ questions qs
 
 -- The same question put alone: Flag, Number or String by its kind; "a bad id, kind or fourth byte is refused 2".
-abbrev pub ofKind : Numbered → List ℕ → List ℕ → List ℕ → List ℕ → Answer
+abbrev pub ofKind : Numbered → Files → List ℕ → List ℕ → List ℕ → Answer
 ofKind (Is k) db name id lent = question k db name id lent
 ofKind Nothing db name id lent = Refused BadId
 
-unfoldable pub alone : List ℕ → List ℕ → List ℕ → List ℕ → Answer
+unfoldable pub alone : Files → List ℕ → List ℕ → List ℕ → Answer
 alone db name [] lent = Refused BadId
 alone db name (a ∷ []) lent = Refused BadId
 alone db name (a ∷ b ∷ []) lent = Refused BadId
@@ -36,7 +37,7 @@ alone db name (a ∷ b ∷ k ∷ []) lent = Refused BadId
 alone db name (a ∷ b ∷ k ∷ z ∷ l) lent = pick (eqb z 0) (ofKind (kindOf k) db name (a ∷ b ∷ []) lent) (Refused BadId)
 
 -- Each record is the answer to its question put alone, with any lent buffer in which there is room for it; and there are as many.
-abbrev pub AnsweredAlone : List ℕ → List ℕ → List (List ℕ) → List (List ℕ) → Type 0
+abbrev pub AnsweredAlone : Files → List ℕ → List (List ℕ) → List (List ℕ) → Type 0
 AnsweredAlone db name [] [] = Unit {0}
 AnsweredAlone db name [] (r ∷ rs) = ⊥
 AnsweredAlone db name (q ∷ qs) [] = ⊥
@@ -45,5 +46,5 @@ AnsweredAlone db name (q ∷ qs) (r ∷ rs) =
 
 -- THE STATEMENT, of an accepted batch: as many answers as questions, each that of its question. Its proof is proofs/Batch.
 abbrev pub BatchAnswers : Type 0
-BatchAnswers = (db name asked buffer : List ℕ) (n : ℕ) → batchOutcome db name asked buffer .answer ≡ Count n
-    → (n ≡ length (questions asked)) × AnsweredAlone db name (questions asked) (cut n (batchOutcome db name asked buffer .buffer))
+BatchAnswers = (db : Files) (name asked buffer : List ℕ) (n : ℕ) → batchOutcome db name asked buffer .answer ≡ Count n
+    → (n ≡ length (questions asked)) × AnsweredAlone db name (questions asked) (cut 8 n (batchOutcome db name asked buffer .buffer))

@@ -4,6 +4,7 @@ use Prim.Native.Nat.{ℕ, _*_, _≤_}
 use mathlib.Core.Path.{_≡_}
 use mathlib.Core.List.{List}
 use lib.ListN.{length, drop}
+use Rattle.spec.specs.Files.{Files}
 use Rattle.spec.specs.Answers.{Outcome}
 use Rattle.spec.specs.Questions.{stringOutcome}
 use Rattle.spec.specs.Listing.{listOutcome, flatOutcome}
@@ -33,9 +34,9 @@ pub record Answers (buffer : List ℕ) (o : Outcome Answer) : Type 0 where
 
 -- THE STATEMENT, for every input. Its proof is proofs/Demand1.
 pub record Demand1 : Type 0 where
-  pub string : (db name id buffer : List ℕ) → Answers buffer (stringOutcome db name id buffer)
-  pub list : (db name buffer : List ℕ) → Writes 8 buffer (listOutcome db name buffer)
-  pub flat : (db name buffer : List ℕ) → Writes 1 buffer (flatOutcome db name buffer)
+  pub string : (db : Files) (name id buffer : List ℕ) → Answers buffer (stringOutcome db name id buffer)
+  pub list : (db : Files) (name buffer : List ℕ) → Writes 12 buffer (listOutcome db name buffer)
+  pub flat : (db : Files) (name buffer : List ℕ) → Writes 1 buffer (flatOutcome db name buffer)
   pub send : (cmd : List ℕ) (lines speed pad : ℕ) (buffer : List ℕ) → Writes 1 buffer (sendOutcome cmd lines speed pad buffer)
   pub send-at : (cmd : List ℕ) (row column : ℕ) (back up : List ℕ) (lines speed pad : ℕ) (buffer : List ℕ)
       → Writes 1 buffer (sendAtOutcome cmd row column back up lines speed pad buffer)

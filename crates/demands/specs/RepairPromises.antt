@@ -7,7 +7,8 @@ use mathlib.Core.List.{List, [], _∷_, _++_}
 use lib.ListN.{length, take, drop}
 use Rattle.spec.specs.Lines.{Line, isIgnored, findLine, lineAt}
 use Rattle.spec.specs.Fields.{malformedLine, linkTo, verdict}
-use Rattle.spec.specs.Chain.{linkTarget, refused}
+use Rattle.spec.specs.Files.{alone}
+use Rattle.spec.specs.Chain.{refused}
 use Rattle.spec.specs.Questions.{terminalOf}
 use Rattle.spec.specs.Repair.{linesOf, RepairOutcome, repairOutcome}
 use Rattle.spec.specs.declared.Found.{Found}
@@ -15,6 +16,7 @@ use Rattle.spec.specs.declared.Found.the-variants.{At, Nothing}
 use Rattle.spec.specs.declared.Refusal.{Refusal}
 use Rattle.spec.specs.declared.Refusal.the-variants.{LostLink, Malformed, Cycle}
 use Rattle.spec.specs.declared.Repaired.the-variants.{Counts}
+use Rattle.demands.specs.OneFile.{target}
 
 -- ---- "a database without malformed lines, lost links or cycles"
 
@@ -22,7 +24,7 @@ use Rattle.spec.specs.declared.Repaired.the-variants.{Counts}
 unfoldable pub along : List ℕ → ℕ → Found → Found
 along db zero found = found
 along db (suc n) Nothing = Nothing
-along db (suc n) (At p) = along db n (linkTarget db p (verdict (lineAt db p)))
+along db (suc n) (At p) = along db n (target db (verdict (lineAt db p)))
 
 -- Something of the start of each line that is not ignored.
 abbrev pub EachDescription : (ℕ → Type 0) → List Line → Type 0
@@ -49,7 +51,7 @@ pub record RepairPromises (db text records : List ℕ) (bytes : ℕ) : Type 0 wh
   -- what was written is a sound database
   pub sound : Sound (take bytes (repairOutcome db text records .text))
   -- "Afterwards no name is refused with 5, 6 or 7"
-  pub followed : (name : List ℕ) (r : Refusal) → terminalOf (take bytes (repairOutcome db text records .text)) name ≡ refused r → Breaks r → ⊥
+  pub followed : (name : List ℕ) (r : Refusal) → terminalOf (alone (take bytes (repairOutcome db text records .text))) name ≡ refused r → Breaks r → ⊥
   -- "A database without malformed lines, lost links or cycles comes back unchanged with no records"
   pub unchanged : Sound db → repairOutcome db text records ≡ record { answer = Counts (length db) 0; text = db ++ drop (length db) text; records = records }
   -- it is no longer than before, so that a buffer of the database's length always has room for it

@@ -3,6 +3,7 @@ use Prim.Native.Nat.{ℕ, _≤_}
 use mathlib.Core.Path.{_≡_}
 use mathlib.Core.List.{List}
 use lib.ListN.{length}
+use Rattle.spec.specs.Files.{Files}
 use Rattle.spec.specs.Padding.{Split, split, prefixOf, delayFor, padCount}
 use Rattle.spec.specs.Questions.{stringOutcome}
 use Rattle.spec.specs.Listing.{listOutcome, flatOutcome}
@@ -10,12 +11,12 @@ use Rattle.demands.specs.Demand3.{HasRoom, QuestionHasRoom}
 
 -- THE STATEMENT. Its proof is proofs/Room.
 pub record EnoughRoom : Type 0 where
-  -- 5,460 records of 8 bytes
-  pub list : (db name buffer : List ℕ) → 43680 ≤ length buffer → HasRoom (listOutcome db name buffer .answer)
+  -- 5,460 records of 12 bytes
+  pub list : (db : Files) (name buffer : List ℕ) → 65520 ≤ length buffer → HasRoom (listOutcome db name buffer .answer)
   -- a chain's size and a newline
-  pub flat : (db name buffer : List ℕ) → 16385 ≤ length buffer → HasRoom (flatOutcome db name buffer .answer)
+  pub flat : (db : Files) (name buffer : List ℕ) → 16385 ≤ length buffer → HasRoom (flatOutcome db name buffer .answer)
   -- a decoded string is no longer than its field
-  pub string : (db name id buffer : List ℕ) → 16384 ≤ length buffer → QuestionHasRoom (stringOutcome db name id buffer .answer)
+  pub string : (db : Files) (name id buffer : List ℕ) → 16384 ≤ length buffer → QuestionHasRoom (stringOutcome db name id buffer .answer)
   -- 9,999.9 ms for each of 1,000 lines at 115,200 bits a second
   pub pads : (cmd : List ℕ) (p : Split) (lines speed : ℕ) → prefixOf cmd ≡ split p → lines ≤ 1000 → speed ≤ 115200
       → padCount (delayFor (p .delay) (p .star) lines) speed ≤ 115198848

@@ -9,9 +9,10 @@ use borrow.Author.Tests.{leb-true, leb-false, le-leb}
 use lib.Dec.{leb}
 use lib.ListN.{length, take, getD, set, length-append}
 use lib.Seq.{sets}
-use Rattle.spec.specs.Lines.{lineAt}
+use Rattle.spec.specs.Files.{fileAt, lineOf}
 use Rattle.spec.specs.Fields.{namesOf, withColons}
-use Rattle.spec.specs.Chain.{Field, Terminal, refused, texts}
+use Rattle.spec.specs.Chain.{Field, Terminal, refused, texts, firstNames}
+use Rattle.spec.specs.declared.Location.{Location}
 use Rattle.spec.specs.Lookup.{winning}
 use Rattle.spec.specs.Listing.{records, listFor, flatText, flatFor, mostFlatBytes, Bounded}
 use Rattle.spec.specs.declared.Written.the-variants.{Count, Refused}
@@ -51,9 +52,9 @@ module _ (fs : List Field) (n : ℕ) (out out′ : List ℕ) (w : WroteWinning R
   pub list-measured : n ≡ length (records (winning fs))
   list-measured = omega (arith, w .0, ap length (written-records (winning fs)))
 
-  pub list-written : leb (length (records (winning fs))) (length out) ≡ true → Put (records (winning fs)) (length (winning fs)) out (Count (n / 8)) out′
+  pub list-written : leb (length (records (winning fs))) (length out) ≡ true → Put (records (winning fs)) (length (winning fs)) out (Count (n / 12)) out′
   list-written h =
-      let c : n / 8 ≡ length (winning fs) = omega (arith, list-measured, records-length (winning fs) (winning-wins fs)) in
+      let c : n / 12 ≡ length (winning fs) = omega (arith, list-measured, records-length (winning fs) (winning-wins fs)) in
       rw c (put-all (records (winning fs)) (length (winning fs)) out out′ h (w .1 ∙ ap (sets out 0) (written-records (winning fs))))
 
 -- ---- Flat
@@ -103,8 +104,9 @@ module _ (t : Terminal) (out : List ℕ) where
   flat-none r e = (rw e, rw e)
 
 -- the names of a chain's first line are what stands before its first colon
-pub first-names : (db places : List ℕ) (n : ℕ) → 0 < n → namesOf (lineAt db (getD (take n places) 0 0)) ≡ fieldAt db (getD places 0 0)
-unfolding namesOf
-first-names db places zero h = absurd (omega arith)
-first-names db [] (suc n) h = refl
-first-names db (p ∷ places) (suc n) h = refl
+pub first-names : (db : List (List ℕ)) (lines : List Location) (n : ℕ) (d : Location) (part : List ℕ) → 0 < n → 0 < length lines
+    → part ≡ fileAt db ((getD lines 0 d) .file) → firstNames db (take n lines) ≡ fieldAt part ((getD lines 0 d) .at)
+unfolding firstNames namesOf lineOf
+first-names db lines zero d part h k e = absurd (omega arith)
+first-names db [] (suc n) d part h k e = absurd (omega arith)
+first-names db (p ∷ lines) (suc n) d part h k e = rw e

@@ -47,5 +47,5 @@ module _ (text t : List ℕ) where
       where
         go : (qs : List Reading) (x : Bool) → x ≡ not (hidden qs (capability a b c))
             → WonAfter qs (capability a b c) (wonIf x a b (contentKind c) (contentValue c))
-        go qs true h = (rw w (sym h), λ place. refl)
+        go qs true h = (rw w (sym h), λ from. refl)
         go qs false h = rw w (sym h)

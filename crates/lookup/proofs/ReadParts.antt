@@ -8,9 +8,5 @@ use Rattle.field_bounds.proofs.Parts.{part, part-is}
 use Rattle.fields.specs.Readings.{ReadAs}
 use Rattle.fields.specs.declared.FieldRead.{FieldRead}
 
-module _ (db : List ℕ) (from : ℕ) (r : Reading) (read : FieldRead) where
-  pub part-read : ReadAs (part db from) r read → ReadAs (drop from db) r read
-  part-read p = rw (part-is db from) at p
-
-  pub rest-read : ReadAs (drop from db) r read → ReadAs (part db from) r read
-  rest-read p = rw (part-is db from) p
+pub part-read : (db : List ℕ) (from : ℕ) (r : Reading) (read : FieldRead) → ReadAs (part db from) r read → ReadAs (drop from db) r read
+part-read db from r read p = rw (part-is db from) at p

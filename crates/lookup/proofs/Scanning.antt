@@ -6,7 +6,8 @@ use mathlib.Core.Bool.{Bool, true, false}
 use mathlib.Core.List.{List, [], _∷_, _++_}
 use lib.ListN.{length, getD}
 use Rattle.spec.specs.Choice.{pick}
-use Rattle.spec.specs.Lines.{lineAt}
+use Rattle.spec.specs.Files.{lineOf}
+use Rattle.spec.specs.declared.Location.{Location}
 use Rattle.spec.specs.Fields.{reading, fieldsOf}
 use Rattle.spec.specs.Chain.{Field, placed}
 use Rattle.spec.specs.Lookup.{Hit, none, hit, matches, lookup}
@@ -50,43 +51,44 @@ module _ (id : List ℕ) (k : ℕ) where
   after cancelled h = none
   after (answered t) h = hit t
 
-  lookup-line : (n : ℕ) (ts : List (List ℕ)) (gs : List Field) → lookup id k (placed n ts ++ gs) ≡ after (scan id k ts) (lookup id k gs)
+  lookup-line : (n m : ℕ) (ts : List (List ℕ)) (gs : List Field) → lookup id k (placed n m ts ++ gs) ≡ after (scan id k ts) (lookup id k gs)
   unfolding lookup scan after placed
-  lookup-line n [] gs = refl
-  lookup-line n (t ∷ ts) gs = go (matches id 0 (reading t)) (matches id k (reading t)) (lookup-line n ts gs)
+  lookup-line n m [] gs = refl
+  lookup-line n m (t ∷ ts) gs = go (matches id 0 (reading t)) (matches id k (reading t)) (lookup-line n m ts gs)
     where
-      go : (x y : Bool) → lookup id k (placed n ts ++ gs) ≡ after (scan id k ts) (lookup id k gs)
-          → pick x none (pick y (hit t) (lookup id k (placed n ts ++ gs))) ≡ after (pick x cancelled (pick y (answered t) (scan id k ts))) (lookup id k gs)
+      go : (x y : Bool) → lookup id k (placed n m ts ++ gs) ≡ after (scan id k ts) (lookup id k gs)
+          → pick x none (pick y (hit t) (lookup id k (placed n m ts ++ gs))) ≡ after (pick x cancelled (pick y (answered t) (scan id k ts))) (lookup id k gs)
       go true y e = refl
       go false true e = refl
       go false false e = e
 
-  module _ (db places : List ℕ) (n i : ℕ) where
-    pub look-end : n ≤ i → lookup id k (fieldsFrom db places n i) ≡ none
+  module _ (db : List (List ℕ)) (lines : List Location) (n i : ℕ) where
+    pub look-end : n ≤ i → lookup id k (fieldsFrom db lines n i) ≡ none
     unfolding lookup
-    look-end h = rw (from-end db places n i h)
+    look-end h = rw (from-end db lines n i h)
 
-    pub look-all : length places ≤ i → lookup id k (fieldsFrom db places n i) ≡ none
+    pub look-all : length lines ≤ i → lookup id k (fieldsFrom db lines n i) ≡ none
     unfolding lookup
-    look-all h = rw (from-all db places n i h)
+    look-all h = rw (from-all db lines n i h)
 
-    module _ (inside : i < n) (array : i < length places) where
-      step : lookup id k (fieldsFrom db places n i) ≡ after (scan id k (fieldsOf (lineAt db (getD places i 0))))
-          (lookup id k (fieldsFrom db places n (i + 1)))
-      step = rw (from-next db places n i inside array) (lookup-line i (fieldsOf (lineAt db (getD places i 0))) (fieldsFrom db places n (i + 1)))
+    -- the i-th line is l
+    module _ (inside : i < n) (array : i < length lines) (d : Location) (l : List ℕ) (line : lineOf db (getD lines i d) ≡ l) where
+      step : lookup id k (fieldsFrom db lines n i) ≡ after (scan id k (fieldsOf l))
+          (lookup id k (fieldsFrom db lines n (i + 1)))
+      step = rw (from-next db lines n d i inside array, line) (lookup-line i ((getD lines i d) .file) (fieldsOf l) (fieldsFrom db lines n (i + 1)))
 
-      pub look-on : scan id k (fieldsOf (lineAt db (getD places i 0))) ≡ goesOn
-          → lookup id k (fieldsFrom db places n i) ≡ lookup id k (fieldsFrom db places n (i + 1))
+      pub look-on : scan id k (fieldsOf l) ≡ goesOn
+          → lookup id k (fieldsFrom db lines n i) ≡ lookup id k (fieldsFrom db lines n (i + 1))
       unfolding after
       look-on e = rw (step, e)
 
-      pub look-unnamed : fieldsOf (lineAt db (getD places i 0)) ≡ [] → lookup id k (fieldsFrom db places n i) ≡ lookup id k (fieldsFrom db places n (i + 1))
+      pub look-unnamed : fieldsOf l ≡ [] → lookup id k (fieldsFrom db lines n i) ≡ lookup id k (fieldsFrom db lines n (i + 1))
       look-unnamed e = look-on (rw e scan-none)
 
-      pub look-cancelled : scan id k (fieldsOf (lineAt db (getD places i 0))) ≡ cancelled → lookup id k (fieldsFrom db places n i) ≡ none
+      pub look-cancelled : scan id k (fieldsOf l) ≡ cancelled → lookup id k (fieldsFrom db lines n i) ≡ none
       unfolding after
       look-cancelled e = rw (step, e)
 
-      pub look-answered : (t : List ℕ) → scan id k (fieldsOf (lineAt db (getD places i 0))) ≡ answered t → lookup id k (fieldsFrom db places n i) ≡ hit t
+      pub look-answered : (t : List ℕ) → scan id k (fieldsOf l) ≡ answered t → lookup id k (fieldsFrom db lines n i) ≡ hit t
       unfolding after
       look-answered t e = rw (step, e)

@@ -8,6 +8,7 @@ use lib.ListN.{length, take, drop}
 use Rattle.spec.specs.Choice.{pick}
 use Rattle.spec.specs.Lists.{same}
 use Rattle.spec.specs.Fields.{reading}
+use Rattle.spec.specs.Files.{fileAt}
 use Rattle.spec.specs.Chain.{Field}
 use Rattle.spec.specs.Lookup.{matches, none, hit, lookup}
 use Rattle.fields.specs.Readings.{ReadAs}
@@ -62,7 +63,8 @@ Scanned id k ts s (Answered read) = (t : List ℕ) × (scan id k ts ≡ answered
 
 -- ---- the chain
 
--- `look_up`: no field answers; or one does, and this is what it is read as in the part of the database from a place on.
-abbrev pub LookedUp : List ℕ → ℕ → List Field → List ℕ → ChainHit → Type 0
+-- `look_up`: no field answers; or one does, and this is what it is read as in the part of one of the files from a place on.
+abbrev pub LookedUp : List ℕ → ℕ → List Field → List (List ℕ) → ChainHit → Type 0
 LookedUp id k fs db Nothing = lookup id k fs ≡ none
-LookedUp id k fs db (FieldAt from read) = (t : List ℕ) × (lookup id k fs ≡ hit t) × ReadAs (drop from db) (reading t) read × (from ≤ length db)
+LookedUp id k fs db (FieldAt l read) =
+    (t : List ℕ) × (lookup id k fs ≡ hit t) × ReadAs (drop (l .at) (fileAt db (l .file))) (reading t) read × (l .at ≤ length (fileAt db (l .file)))

@@ -9,16 +9,19 @@ use field_bounds::next_bounds;
 use fields::FieldRead;
 use fields::NextField;
 use fields::next_field;
+use files::file;
 use lines::Step;
 use spec::Kind;
+use spec::Location;
 ghost use mathlib.Core.Path.{_≡_};
 ghost use mathlib.Core.List.{[], _∷_};
 ghost use lib.Dec.{eqb};
 ghost use Rattle.spec.specs.Lines.{lineAt};
+ghost use Rattle.spec.specs.Files.{files, contents};
 ghost use Rattle.spec.specs.Fields.{split, kindNumber};
 ghost use Rattle.spec.specs.Chain.{joinedFields};
 ghost use Rattle.field_bounds.specs.Answers.{fieldAt};
-ghost use Rattle.chain.specs.Answers.{placesOf};
+ghost use Rattle.chain.specs.Answers.{linesOf};
 ghost use Rattle.lookup.specs.Answers.{hasName, hasKind, Matched, Scanned, LookedUp};
 
 // What a field with the asked name is to a question: it is passed over, it is a cancel, or it answers.
@@ -35,11 +38,11 @@ enum LineHit {
     Answered(FieldRead),
 }
 
-// What a lookup finds in a chain: nothing; or the part of the database where the fields of a line start, and what the field that answers is
-// read as there.
+// What a lookup finds in a chain: nothing; or the place of a file where the fields of a line start, and what the field that answers is read
+// as in the part of the file from there on.
 pub enum ChainHit {
     Nothing,
-    Field(usize, FieldRead),
+    Field(Location, FieldRead),
 }
 
 // Whether the field at a place starts with two bytes.
@@ -108,12 +111,13 @@ fn scan_fields(s: &[u8], a: u8, b: u8, kind: u8) -> LineHit
     }
 }
 
-// "The first field of that name and kind, unless a cancel of that name stands earlier." A chain has no more places than its array, whatever
+// "The first field of that name and kind, unless a cancel of that name stands earlier." A chain has no more lines than its array, whatever
 // its count is.
-pub fn look_up(db: &[u8], c: Chain, a: u8, b: u8, kind: Kind) -> ChainHit
-    ensures { λ r. ⌜ LookedUp (a ∷ b ∷ []) (kindNumber kind) (joinedFields (now (db .entry)) 0 (placesOf c)) (now (db .entry)) r ⌝ }
+pub fn look_up(db: &[u8], ends: &[usize], c: Chain, a: u8, b: u8, kind: Kind) -> ChainHit
+    ensures { λ r. ⌜ LookedUp (a ∷ b ∷ []) (kindNumber kind) (joinedFields (contents (files (now (db .entry)) (now (ends .entry)))) 0 (linesOf c))
+        (contents (files (now (db .entry)) (now (ends .entry)))) r ⌝ }
 {
-    let places = c.places;
+    let lines = c.lines;
     let n = c.count;
     let number = kind.number();
     let mut i = 0;
@@ -121,14 +125,17 @@ pub fn look_up(db: &[u8], c: Chain, a: u8, b: u8, kind: Kind) -> ChainHit
         if i >= MOST_DESCRIPTIONS {
             return ChainHit::Nothing;
         }
-        let AfterNames::At(from, _) = after_names(db, places[i]) else {
+        let p = lines[i];
+        let k = p.file;
+        let part = file(db, ends, k);
+        let AfterNames::At(from, _) = after_names(part, p.at) else {
             i += 1;
             continue;
         };
-        match scan_fields(&db[from..], a, b, number) {
+        match scan_fields(&part[from..], a, b, number) {
             LineHit::Open => i += 1,
             LineHit::Cancelled => return ChainHit::Nothing,
-            LineHit::Answered(read) => return ChainHit::Field(from, read),
+            LineHit::Answered(read) => return ChainHit::Field(Location { file: k, at: from }, read),
         }
     }
     ChainHit::Nothing

@@ -7,8 +7,11 @@ use native.Mathlib.Omega.{arith}
 use denote.Enum.Declared.{tagOf}
 use types.Run.{OneOf, miss}
 use lib.ListN.{length, drop, length-drop}
+use Rattle.spec.specs.Files.{Files, contents, fileAt}
 use Rattle.spec.specs.Fields.{Reading}
 use Rattle.spec.specs.Lookup.{valueOf, bytesOf}
+use Rattle.spec.specs.declared.Location.{Location}
+use Rattle.spec.proofs.FileParts.{file-short}
 use Rattle.field_bounds.proofs.LineBounds.{text-bound}
 use Rattle.fields.specs.Readings.{ReadAs}
 use Rattle.fields.specs.declared.FieldRead.{FieldRead}
@@ -57,5 +60,8 @@ no-value (Flag a b) t = absurd (miss (0 ∷ 1 ∷ 2 ∷ 3 ∷ []) 4 tt t)
 no-value (Number a b v) t = absurd (miss (0 ∷ 1 ∷ 2 ∷ 3 ∷ []) 5 tt t)
 no-value (String a b text n) t = absurd (miss (0 ∷ 1 ∷ 2 ∷ 3 ∷ []) 6 tt t)
 
-pub read-small : (db : List ℕ) (from : ℕ) (r : Reading) (read : FieldRead) → ReadAs (drop from db) r read → textLength read ≤ length db
-read-small db from r read p = omega (arith, read-length (drop from db) r read p, length-drop from db)
+pub read-small : (db : Files) (l : Location) (r : Reading) (read : FieldRead) → ReadAs (drop (l .at) (fileAt (contents db) (l .file))) r read
+    → textLength read ≤ length (db .bytes)
+read-small db l r read p =
+    let part = fileAt (contents db) (l .file) in
+    omega (arith, read-length (drop (l .at) part) r read p, length-drop (l .at) part, file-short db (l .file))

@@ -7,6 +7,7 @@ use mathlib.Core.List.{List, [], _∷_}
 use lib.ListN.{getD}
 use Rattle.spec.specs.Choice.{pick}
 use Rattle.spec.specs.Refusals.{goodName, goodId, tooLarge}
+use Rattle.spec.specs.Files.{Files, goodEnds, contents}
 use Rattle.spec.specs.Fields.{reading, kindNumber}
 use Rattle.spec.specs.Chain.{Field, Terminal, refused, terminal, resolve}
 use Rattle.spec.specs.Lookup.{none, hit, lookup, valueOf}
@@ -15,33 +16,37 @@ use Rattle.spec.specs.Questions.{terminalOf, terminalFor, hitAnswer, answerFor,
 use Rattle.spec.specs.declared.Kind.{Kind}
 use Rattle.spec.specs.declared.Kind.the-variants.{String}
 use Rattle.spec.specs.declared.Refusal.{Refusal}
-use Rattle.spec.specs.declared.Refusal.the-variants.{BadName, BadId, DatabaseTooLarge}
+use Rattle.spec.specs.declared.Refusal.the-variants.{BadName, BadId, DatabaseTooLarge, BadEnds}
 use Rattle.spec.specs.declared.Answer.the-variants.{Present, Absent, Refused}
 use Rattle.identifiers.proofs.AskedNames.{id-is}
 use Rattle.lookup.specs.Answers.{LookedUp}
 use Rattle.lookup.specs.declared.ChainHit.{ChainHit}
+use Rattle.questions.specs.Answers.{idRefusal}
 
--- ---- 1 comes before 2
+-- ---- 16 comes before 1, and 1 before 2
 
-module _ (db name id : List ℕ) where
-  pub asked-bad-name : goodName name ≡ false → terminalFor db name id ≡ refused BadName
-  unfolding terminalFor
-  asked-bad-name e = rw e
-
-  pub asked-bad-id : goodName name ≡ true → goodId id ≡ false → terminalFor db name id ≡ refused BadId
-  unfolding terminalFor
-  asked-bad-id e h = rw (e, h)
+module _ (db : Files) (name id : List ℕ) where
+  pub asked-bad-id : goodId id ≡ false → terminalFor db name id ≡ refused (idRefusal db name)
+  unfolding terminalFor idRefusal
+  asked-bad-id h = rw h (go (goodEnds db) (goodName name))
+    where
+      go : (w g : Bool) → pick w (pick g (refused BadId) (refused BadName)) (refused BadEnds) ≡ refused (pick w (pick g BadId BadName) BadEnds)
+      go true true = refl
+      go true false = refl
+      go false g = refl
 
   pub asked-good : goodId id ≡ true → terminalFor db name id ≡ terminalOf db name
   unfolding terminalFor terminalOf
-  asked-good h = rw h (go (goodName name) (pick (tooLarge db) (refused DatabaseTooLarge) (resolve db name)))
+  asked-good h = rw h (go (goodEnds db) (goodName name) (pick (tooLarge (db .bytes)) (refused DatabaseTooLarge) (resolve (contents db) name)))
     where
-      go : (g : Bool) (t : Terminal) → pick g (pick g t (refused BadName)) (refused BadName) ≡ pick g t (refused BadName)
-      go true t = refl
-      go false t = refl
+      go : (w g : Bool) (t : Terminal) → pick w (pick g (pick w (pick g t (refused BadName)) (refused BadEnds)) (refused BadName)) (refused BadEnds)
+          ≡ pick w (pick g t (refused BadName)) (refused BadEnds)
+      go true true t = refl
+      go true false t = refl
+      go false g t = refl
 
 -- a good id is its two bytes
-pub asked-bytes : (id : List ℕ) (k : ℕ) (fs : List Field) (db : List ℕ) (h : ChainHit) → goodId id ≡ true
+pub asked-bytes : (id : List ℕ) (k : ℕ) (fs : List Field) (db : List (List ℕ)) (h : ChainHit) → goodId id ≡ true
     → LookedUp (getD id 0 0 ∷ getD id 1 0 ∷ []) k fs db h → LookedUp id k fs db h
 asked-bytes id k fs db h i q = rw (id-is id i) q
 

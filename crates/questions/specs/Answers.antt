@@ -3,6 +3,9 @@ use Prim.Native.Nat.{ℕ, _≤_}
 use mathlib.Core.Path.{_≡_}
 use mathlib.Core.List.{List}
 use lib.ListN.{length}
+use Rattle.spec.specs.Choice.{pick}
+use Rattle.spec.specs.Refusals.{goodName}
+use Rattle.spec.specs.Files.{Files, goodEnds, contents}
 use Rattle.spec.specs.Fields.{kindNumber}
 use Rattle.spec.specs.Chain.{Field, refused, terminal}
 use Rattle.spec.specs.Strings.{good, plain, decode}
@@ -10,6 +13,8 @@ use Rattle.spec.specs.Answers.{put}
 use Rattle.spec.specs.Questions.{terminalFor, presented}
 use Rattle.spec.specs.declared.Answer.{Answer}
 use Rattle.spec.specs.declared.Kind.{Kind}
+use Rattle.spec.specs.declared.Refusal.{Refusal}
+use Rattle.spec.specs.declared.Refusal.the-variants.{BadName, BadId, BadEnds}
 use Rattle.field_bounds.specs.Answers.{fieldAt}
 use Rattle.fields.specs.declared.FieldRead.{FieldRead}
 use Rattle.fields.specs.declared.FieldRead.the-variants.{Malformed, Ignored, Link, Cancel, Flag, Number, String}
@@ -18,14 +23,18 @@ use Rattle.lookup.specs.declared.ChainHit.the-variants.{Nothing, Field as Field
 use Rattle.questions.specs.declared.Asked.{Asked}
 use Rattle.questions.specs.declared.Asked.the-variants.{Present, Absent, Refused}
 
+-- `id_refusal`: the refusal of a question with a bad id.
+unfoldable pub idRefusal : Files → List ℕ → Refusal
+idRefusal db name = pick (goodEnds db) (pick (goodName name) BadId BadName) BadEnds
+
 -- `ask`: a question's terminal is refused; or the lookup in it finds nothing, or a field that is read so.
-abbrev pub AskedFor : List ℕ → List ℕ → List ℕ → Kind → Asked → Type 0
+abbrev pub AskedFor : Files → List ℕ → List ℕ → Kind → Asked → Type 0
 AskedFor db name id k (Refused r) = terminalFor db name id ≡ refused r
 AskedFor db name id k Absent =
-    (names : List ℕ) × (fs : List Field) × (terminalFor db name id ≡ terminal names fs) × LookedUp id (kindNumber k) fs db Nothing
-AskedFor db name id k (Present from read) =
+    (names : List ℕ) × (fs : List Field) × (terminalFor db name id ≡ terminal names fs) × LookedUp id (kindNumber k) fs (contents db) Nothing
+AskedFor db name id k (Present p read) =
     (names : List ℕ) × (fs : List Field) × (terminalFor db name id ≡ terminal names fs)
-    × LookedUp id (kindNumber k) fs db (FieldAt from read) × (length db ≤ 1048576)
+    × LookedUp id (kindNumber k) fs (contents db) (FieldAt p read) × (length (db .bytes) ≤ 1048576)
 
 -- ---- the value of a field by what it is read as
 

@@ -2,45 +2,60 @@
 use chain::Ended;
 use escapes::decode_text;
 use fields::FieldRead;
+use files::are_good_ends;
+use files::file;
 use identifiers::is_good_id;
 use identifiers::is_good_name;
 use lookup::ChainHit;
 use lookup::look_up;
 use spec::Answer;
 use spec::Kind;
+use spec::Location;
 use spec::Refusal;
 use terminal::resolve;
 ghost use mathlib.Core.Path.{_≡_};
 ghost use Prim.Native.Nat.{_≤_};
+ghost use lib.ListN.{length, drop};
+ghost use Rattle.spec.specs.Files.{files, contents, fileAt};
 ghost use Rattle.spec.specs.Answers.{answerReport};
 ghost use Rattle.spec.specs.Questions.{terminalFor, answerFor, flagAnswer, flagReport, numberAnswer, numberReport, stringOutcome, stringReport};
-ghost use Rattle.questions.specs.Answers.{AskedFor, textLength, readValue, TextOf, TextWritten};
+ghost use Rattle.questions.specs.Answers.{idRefusal, AskedFor, textLength, readValue, TextOf, TextWritten};
 
-// What a question comes to: the field that answers is absent; or the part of the database where the fields of its line start, and what it
-// is read as there.
+// What a question comes to: the field that answers is absent; or the place of a file where the fields of its line start, and what it is read
+// as in the part of the file from there on.
 enum Asked {
-    Present(usize, FieldRead),
+    Present(Location, FieldRead),
     Absent,
     Refused(Refusal),
 }
 
-// Refusals 1 and 2, then 3 and the walk, then the lookup. A name is tested once: by `resolve`, unless the id is bad.
-fn ask(db: &[u8], name: &[u8], id: &[u8], kind: Kind) -> Asked
-    ensures { λ r. ⌜ AskedFor (now (db .entry)) (now (name .entry)) (now (id .entry)) kind r ⌝ }
+// Why a question with a bad id is refused: 16, 1, then 2.
+fn id_refusal(db: &[u8], ends: &[usize], name: &[u8]) -> Refusal
+    ensures { λ r. ⌜ r ≡ idRefusal (files (now (db .entry)) (now (ends .entry))) (now (name .entry)) ⌝ }
+{
+    if !are_good_ends(db, ends) {
+        return Refusal::BadEnds;
+    }
+    if !is_good_name(name) {
+        return Refusal::BadName;
+    }
+    Refusal::BadId
+}
+
+// Refusals 16, 1 and 2, then 3 and the walk, then the lookup. Ends and name are tested once: by `resolve`, unless the id is bad.
+fn ask(db: &[u8], ends: &[usize], name: &[u8], id: &[u8], kind: Kind) -> Asked
+    ensures { λ r. ⌜ AskedFor (files (now (db .entry)) (now (ends .entry))) (now (name .entry)) (now (id .entry)) kind r ⌝ }
 {
     if !is_good_id(id) {
-        if is_good_name(name) {
-            return Asked::Refused(Refusal::BadId);
-        }
-        return Asked::Refused(Refusal::BadName);
+        return Asked::Refused(id_refusal(db, ends, name));
     }
-    let w = resolve(db, name);
+    let w = resolve(db, ends, name);
     let ended = w.ended;
     match ended {
         Ended::Refused(r) => Asked::Refused(r),
-        Ended::Accepted => match look_up(db, w.chain, id[0], id[1], kind) {
+        Ended::Accepted => match look_up(db, ends, w.chain, id[0], id[1], kind) {
             ChainHit::Nothing => Asked::Absent,
-            ChainHit::Field(from, read) => Asked::Present(from, read),
+            ChainHit::Field(p, read) => Asked::Present(p, read),
         },
     }
 }
@@ -58,28 +73,28 @@ fn value_of(read: FieldRead) -> u32
     }
 }
 
-fn answer_value(db: &[u8], name: &[u8], id: &[u8], kind: Kind) -> Answer
-    ensures { λ r. ⌜ r ≡ answerFor (now (id .entry)) kind (terminalFor (now (db .entry)) (now (name .entry)) (now (id .entry))) ⌝ }
+fn answer_value(db: &[u8], ends: &[usize], name: &[u8], id: &[u8], kind: Kind) -> Answer
+    ensures { λ r. ⌜ r ≡ answerFor (now (id .entry)) kind (terminalFor (files (now (db .entry)) (now (ends .entry))) (now (name .entry)) (now (id .entry))) ⌝ }
 {
-    match ask(db, name, id, kind) {
+    match ask(db, ends, name, id, kind) {
         Asked::Refused(r) => Answer::Refused(r),
         Asked::Absent => Answer::Absent,
         Asked::Present(_, read) => Answer::Present(value_of(read)),
     }
 }
 
-pub fn flag(db: &[u8], name: &[u8], id: &[u8]) -> Answer
-    ensures { λ r. ⌜ (r ≡ flagAnswer (now (db .entry)) (now (name .entry)) (now (id .entry)))
-        × (answerReport r ≡ flagReport (now (db .entry)) (now (name .entry)) (now (id .entry))) ⌝ }
+pub fn flag(db: &[u8], ends: &[usize], name: &[u8], id: &[u8]) -> Answer
+    ensures { λ r. ⌜ (r ≡ flagAnswer (files (now (db .entry)) (now (ends .entry))) (now (name .entry)) (now (id .entry)))
+        × (answerReport r ≡ flagReport (files (now (db .entry)) (now (ends .entry))) (now (name .entry)) (now (id .entry))) ⌝ }
 {
-    answer_value(db, name, id, Kind::Flag)
+    answer_value(db, ends, name, id, Kind::Flag)
 }
 
-pub fn number(db: &[u8], name: &[u8], id: &[u8]) -> Answer
-    ensures { λ r. ⌜ (r ≡ numberAnswer (now (db .entry)) (now (name .entry)) (now (id .entry)))
-        × (answerReport r ≡ numberReport (now (db .entry)) (now (name .entry)) (now (id .entry))) ⌝ }
+pub fn number(db: &[u8], ends: &[usize], name: &[u8], id: &[u8]) -> Answer
+    ensures { λ r. ⌜ (r ≡ numberAnswer (files (now (db .entry)) (now (ends .entry))) (now (name .entry)) (now (id .entry)))
+        × (answerReport r ≡ numberReport (files (now (db .entry)) (now (ends .entry))) (now (name .entry)) (now (id .entry))) ⌝ }
 {
-    answer_value(db, name, id, Kind::Number)
+    answer_value(db, ends, name, id, Kind::Number)
 }
 
 // Writes the decoded bytes of the text at a place, of which there are n, if they fit.
@@ -95,17 +110,30 @@ fn write_text(s: &[u8], text: usize, n: usize, out: &mut [u8]) -> Answer
     Answer::Present(count)
 }
 
-// The text is measured before it is written. No field that is no string answers; it would have no bytes.
-pub fn string(db: &[u8], name: &[u8], id: &[u8], out: &mut [u8]) -> Answer
-    ensures { λ r. ⌜ (r ≡ stringOutcome (now (db .entry)) (now (name .entry)) (now (id .entry)) (now (out .entry)) .answer)
-        × (now (out .exit) ≡ stringOutcome (now (db .entry)) (now (name .entry)) (now (id .entry)) (now (out .entry)) .buffer)
-        × (answerReport r ≡ stringReport (now (db .entry)) (now (name .entry)) (now (id .entry)) (now (out .entry))) ⌝ }
+// The same of a text in the part of a file from a place on.
+fn write_at(db: &[u8], ends: &[usize], p: Location, text: usize, n: usize, out: &mut [u8]) -> Answer
+    requires { ⌜ (n ≤ 1048576) × (p .at ≤ length (fileAt (contents (files (now db) (now ends))) (p .file)))
+        × TextOf (drop (p .at) (fileAt (contents (files (now db) (now ends))) (p .file))) text n ⌝ }
+    ensures { λ r. ⌜ TextWritten (drop (p .at) (fileAt (contents (files (now (db .entry)) (now (ends .entry)))) (p .file))) text (now (out .entry)) r
+        (now (out .exit)) ⌝ }
 {
-    match ask(db, name, id, Kind::String) {
+    let k = p.file;
+    let from = p.at;
+    let part = file(db, ends, k);
+    write_text(&part[from..], text, n, out)
+}
+
+// The text is measured before it is written. No field that is no string answers; it would have no bytes.
+pub fn string(db: &[u8], ends: &[usize], name: &[u8], id: &[u8], out: &mut [u8]) -> Answer
+    ensures { λ r. ⌜ (r ≡ stringOutcome (files (now (db .entry)) (now (ends .entry))) (now (name .entry)) (now (id .entry)) (now (out .entry)) .answer)
+        × (now (out .exit) ≡ stringOutcome (files (now (db .entry)) (now (ends .entry))) (now (name .entry)) (now (id .entry)) (now (out .entry)) .buffer)
+        × (answerReport r ≡ stringReport (files (now (db .entry)) (now (ends .entry))) (now (name .entry)) (now (id .entry)) (now (out .entry))) ⌝ }
+{
+    match ask(db, ends, name, id, Kind::String) {
         Asked::Refused(r) => Answer::Refused(r),
         Asked::Absent => Answer::Absent,
-        Asked::Present(from, read) => match read {
-            FieldRead::String(_, _, text, n) => write_text(&db[from..], text, n, out),
+        Asked::Present(p, read) => match read {
+            FieldRead::String(_, _, text, n) => write_at(db, ends, p, text, n, out),
             _ => Answer::Present(0),
         },
     }

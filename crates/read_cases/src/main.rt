@@ -109,25 +109,25 @@ fn show_shown(bytes: &[u8], refusal: u8) {
 
 // ---- the cases
 
-fn case_part(db: &[u8], name: &[u8]) {
-    show_ends(show::show_part(db, name));
+fn case_part(db: &[u8], ends: &[usize], name: &[u8]) {
+    show_ends(show::show_part(db, ends, name));
     io::write_all(1, b"\n");
 }
 
-fn case_show(db: &[u8], name: &[u8]) {
+fn case_show(db: &[u8], ends: &[usize], name: &[u8]) {
     let mut refusal = 255;
-    let bytes = show::show(db, name, &mut refusal);
+    let bytes = show::show(db, ends, name, &mut refusal);
     show_shown(bytes, refusal);
     io::write_all(1, b"\n");
 }
 
-fn case_flag(db: &[u8], name: &[u8], id: &[u8]) {
-    show_value(questions::flag(db, name, id));
+fn case_flag(db: &[u8], ends: &[usize], name: &[u8], id: &[u8]) {
+    show_value(questions::flag(db, ends, name, id));
     io::write_all(1, b"\n");
 }
 
-fn case_number(db: &[u8], name: &[u8], id: &[u8]) {
-    show_value(questions::number(db, name, id));
+fn case_number(db: &[u8], ends: &[usize], name: &[u8], id: &[u8]) {
+    show_value(questions::number(db, ends, name, id));
     io::write_all(1, b"\n");
 }
 
@@ -137,35 +137,41 @@ fn show_values(flag: Answer, number: Answer) {
 }
 
 // One opened reader serves all three questions; its answers to Flag and Number are written.
-fn ask_opened<'a>(db: &'a [u8], name: &[u8], id: &[u8], refusal: &mut u8) -> &'a [u8] {
-    let opened = reader::open(db);
+fn ask_opened<'a>(
+    db: &'a [u8],
+    ends: &[usize],
+    name: &[u8],
+    id: &[u8],
+    refusal: &mut u8,
+) -> &'a [u8] {
+    let opened = reader::open(db, ends);
     let flag = reader::flag(opened, name, id);
     let number = reader::number(opened, name, id);
     show_values(flag, number);
     reader::show(opened, name, refusal)
 }
 
-fn case_opened(db: &[u8], name: &[u8], id: &[u8]) {
+fn case_opened(db: &[u8], ends: &[usize], name: &[u8], id: &[u8]) {
     let mut refusal = 255;
-    let bytes = ask_opened(db, name, id, &mut refusal);
+    let bytes = ask_opened(db, ends, name, id, &mut refusal);
     show_shown(bytes, refusal);
     io::write_all(1, b"\n");
 }
 
-fn case_string(db: &[u8], name: &[u8], id: &[u8], out: &mut [u8]) {
-    show_value(questions::string(db, name, id, out));
+fn case_string(db: &[u8], ends: &[usize], name: &[u8], id: &[u8], out: &mut [u8]) {
+    show_value(questions::string(db, ends, name, id, out));
     io::write_all(1, b":");
     show_bytes(out);
     io::write_all(1, b"\n");
 }
 
-fn case_list(db: &[u8], name: &[u8], out: &mut [u8]) {
-    let answer = listing::list(db, name, out);
+fn case_list(db: &[u8], ends: &[usize], name: &[u8], out: &mut [u8]) {
+    let answer = listing::list(db, ends, name, out);
     show_written(answer, out);
 }
 
-fn case_flat(db: &[u8], name: &[u8], out: &mut [u8]) {
-    let answer = listing::flat(db, name, out);
+fn case_flat(db: &[u8], ends: &[usize], name: &[u8], out: &mut [u8]) {
+    let answer = listing::flat(db, ends, name, out);
     show_written(answer, out);
 }
 
@@ -185,23 +191,24 @@ fn case_room(operation: u8, line: &[u8], buffer: &[u8]) -> usize
     room(line, 2, buffer)
 }
 
-fn ask(operation: u8, db: &[u8], name: &[u8], id: &[u8], out: &mut [u8]) {
+fn ask(operation: u8, db: &[u8], ends: &[usize], name: &[u8], id: &[u8], out: &mut [u8]) {
     match operation {
-        b'p' => case_part(db, name),
-        b's' => case_show(db, name),
-        b'f' => case_flag(db, name, id),
-        b'n' => case_number(db, name, id),
-        b'o' => case_opened(db, name, id),
-        b'S' => case_string(db, name, id, out),
-        b'L' => case_list(db, name, out),
-        _ => case_flat(db, name, out),
+        b'p' => case_part(db, ends, name),
+        b's' => case_show(db, ends, name),
+        b'f' => case_flag(db, ends, name, id),
+        b'n' => case_number(db, ends, name, id),
+        b'o' => case_opened(db, ends, name, id),
+        b'S' => case_string(db, ends, name, id, out),
+        b'L' => case_list(db, ends, name, out),
+        _ => case_flat(db, ends, name, out),
     }
 }
 
 fn ask_in_room(operation: u8, line: &[u8], db: &[u8], name: &[u8], id: &[u8]) {
     let mut out = [255u8; 64];
     let most = case_room(operation, line, &out);
-    ask(operation, db, name, id, &mut out[..most]);
+    let ends = [db.len()];
+    ask(operation, db, &ends, name, id, &mut out[..most]);
 }
 
 fn run_case(operation: u8, line: &[u8], n: u64, db: &[u8]) {

@@ -35,7 +35,8 @@ operands (exit n) = []
 operands return = []
 operands (call f xs d) = xs
 
--- 0 is the database, which is in local 4; another local has the number before its own: 1 and 2 are the parameters after the reader
+-- 0 is the database, which is in local 4; another local has the number before its own: 1 and 2 are the parameters after the reader. The ends
+-- are no slice of bytes: no other operand has their type
 abbrev of-place : Place → ℕ
 of-place (place i st) = pick (eqb i 4) 0 (i - 1)
 

@@ -1,8 +1,9 @@
 // Asks the cases of document 02's requests from standard input, one to a line, and writes for each its line's number, the answer, and the
 // buffers afterwards in decimal.
 //
-// A line is `batch`, database, name, questions and room, or `repair`, database, room and room for the records, with a bar after each but
-// the last. Any other line is a comment. In a text
+// A line is `repair`, database, room and room for the records; `batch`, database, name, questions and room; or `part` (what Show shows),
+// database, ends and name; `flag` with an id after these; `list` with a room after them; with a bar after each but the last. Ends are bytes,
+// one for each end; a batch is about one file. Any other line is a comment. In a text
 // a backslash and two hexadecimal digits stand for a byte. A buffer has as many bytes as its room says, at most 64, and holds 255 in each
 // before the call.
 use batch::batch;
@@ -13,7 +14,10 @@ use case_lines::show_refusal;
 use case_lines::show_written;
 use case_lines::text;
 use repair::repair;
+use spec::Answer;
 use spec::Repaired;
+use spec::Shown;
+ghost use Rattle.io.specs.Counts.{Counts};
 
 fn case_batch(line: &[u8], out: &mut [u8]) {
     let mut db = [0u8; 256];
@@ -22,7 +26,11 @@ fn case_batch(line: &[u8], out: &mut [u8]) {
     let n = text(line, 1, &mut db);
     let m = text(line, 2, &mut name);
     let q = text(line, 3, &mut questions);
-    show_written(batch(&db[..n], &name[..m], &questions[..q], out), out);
+    let ends = [n];
+    show_written(
+        batch(&db[..n], &ends, &name[..m], &questions[..q], out),
+        out,
+    );
 }
 
 fn show_repaired(answer: Repaired) {
@@ -48,19 +56,106 @@ fn case_repair(line: &[u8], out: &mut [u8], records: &mut [u8]) {
     io::write_all(1, b"\n");
 }
 
+// ---- Ask 5: several files
+
+fn show_part(answer: Shown) {
+    match answer {
+        Shown::Part(from, to) => {
+            io::write_all(1, b" part ");
+            io::print_decimal(1, from as u64);
+            io::write_all(1, b" ");
+            io::print_decimal(1, to as u64);
+        }
+        Shown::Refused(r) => show_refusal(r.number()),
+    }
+    io::write_all(1, b"\n");
+}
+
+fn show_flag(answer: Answer) {
+    match answer {
+        Answer::Present(v) => {
+            io::write_all(1, b" present ");
+            io::print_decimal(1, v as u64);
+        }
+        Answer::Absent => {
+            io::write_all(1, b" absent");
+        }
+        Answer::Refused(r) => show_refusal(r.number()),
+    }
+    io::write_all(1, b"\n");
+}
+
+fn wide(b: u8) -> usize {
+    b as usize
+}
+
+// As many ends as there is space for.
+fn read_ends(bytes: &[u8], ends: &mut [usize]) -> usize
+    ensures { λ r. ⌜ Counts r (now (ends .exit)) ⌝ }
+{
+    let mut n = 0;
+    while n < bytes.len() {
+        if n == ends.len() {
+            return n;
+        }
+        ends[n] = wide(bytes[n]);
+        n += 1;
+    }
+    n
+}
+
+fn ask_files(operation: u8, line: &[u8], db: &[u8], ends: &[usize], out: &mut [u8]) {
+    let mut name = [0u8; 80];
+    let mut id = [0u8; 8];
+    let k = text(line, 3, &mut name);
+    let m = text(line, 4, &mut id);
+    match operation {
+        b'p' => show_part(show::show_part(db, ends, &name[..k])),
+        b'f' => show_flag(questions::flag(db, ends, &name[..k], &id[..m])),
+        _ => {
+            let answer = listing::list(db, ends, &name[..k], out);
+            show_written(answer, out);
+        }
+    }
+}
+
+fn case_files(operation: u8, line: &[u8], out: &mut [u8]) {
+    let mut db = [0u8; 256];
+    let mut bytes = [0u8; 16];
+    let mut ends = [0usize; 16];
+    let n = text(line, 1, &mut db);
+    let k = text(line, 2, &mut bytes);
+    let m = read_ends(&bytes[..k], &mut ends);
+    ask_files(operation, line, &db[..n], &ends[..m], out);
+}
+
+fn is_of_files(b: u8) -> bool {
+    match b {
+        b'p' | b'f' | b'l' => true,
+        _ => false,
+    }
+}
+
 fn run_line(line: &[u8], n: u64) {
     if line.len() == 0 {
         return;
     }
     let mut out = [255u8; 64];
     let mut records = [255u8; 64];
-    if line[0] == b'b' {
+    let operation = line[0];
+    if is_of_files(operation) {
+        let most = room(line, 4, &out);
+        io::print_decimal(1, n);
+        case_files(operation, line, &mut out[..most]);
+        return;
+    }
+    if operation == b'b' {
         let most = room(line, 4, &out);
         io::print_decimal(1, n);
         case_batch(line, &mut out[..most]);
         return;
     }
-    if line[0] == b'r' {
+    if operation == b'r' {
         let most = room(line, 2, &out);
         let most_records = room(line, 3, &records);
         io::print_decimal(1, n);

@@ -5,6 +5,7 @@ use mathlib.Core.Path.{_≡_, refl, sym}
 use mathlib.Core.List.{List, [], _∷_, _++_, append-assoc}
 use native.Mathlib.Omega.{arith}
 use Rattle.spec.specs.Fields.{withColons}
+use Rattle.spec.specs.Files.{Files}
 use Rattle.spec.specs.Chain.{Field, texts, terminal}
 use Rattle.spec.specs.Lookup.{winning}
 use Rattle.spec.specs.Questions.{terminalOf}
@@ -49,7 +50,7 @@ unfolding open-colons
 open-free t [] h hs = h
 open-free t (u ∷ ts) h hs = free-append 10 t (58 ∷ open-colons u ts) h ((λ e. omega arith), open-free u ts (hs .0) (hs .1))
 
-module _ (db name names : List ℕ) (fs : List Field) (accepted : terminalOf db name ≡ terminal names fs) where
+module _ (db : Files) (name names : List ℕ) (fs : List Field) (accepted : terminalOf db name ≡ terminal names fs) where
   -- all of Flat but its last byte
   abbrev pub flatBody : List ℕ
   flatBody = withColons (names ∷ texts (winning fs))

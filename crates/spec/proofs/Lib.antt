@@ -8,6 +8,8 @@ pub mod DigitReading
 pub mod OctalEscapes
 pub mod TextSteps
 pub mod WholeLines
+pub mod FileLines
+pub mod FileParts
 pub mod Extents
 pub mod FieldTexts
 pub mod Readings

@@ -13,6 +13,7 @@ use Rattle.spec.specs.Lists.{upto, same, among, laterPieces}
 use Rattle.spec.specs.Lines.{firstName, laterNames, hasName}
 use Rattle.spec.specs.Refusals.{nameBytes, goodName}
 use Rattle.spec.specs.Fields.{Reading, malformed, ignored, link, capability, reading, namesOf, withColons, size}
+use Rattle.spec.specs.Files.{Files}
 use Rattle.spec.specs.Chain.{Field, texts, terminal}
 use Rattle.spec.specs.Lookup.{canWin, winning}
 use Rattle.spec.specs.Questions.{terminalOf}
@@ -61,7 +62,7 @@ wins-long (f ∷ fs) w = omega (arith, win-long (f .text) (w .0), wins-long fs (
 
 -- ---- the bounds
 
-pub accepted-bounded : (db name names : List ℕ) (fs : List Field) → terminalOf db name ≡ terminal names fs → Bounded names fs
+pub accepted-bounded : (db : Files) (name names : List ℕ) (fs : List Field) → terminalOf db name ≡ terminal names fs → Bounded names fs
 unfolding flatText size
 accepted-bounded db name names fs accepted =
     let k = sound db name names fs accepted in

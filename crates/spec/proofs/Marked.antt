@@ -3,6 +3,7 @@
 use mathlib.Core.Path.{refl}
 use Rattle.spec.specs.Examples.{Marked}
 use Rattle.spec.specs.Rulings.{Ruled}
+use Rattle.spec.specs.FileRulings.{FilesRuled}
 use Rattle.spec.proofs.Computing.{computing}
 
 pub marked-examples : Marked
@@ -12,3 +13,7 @@ marked-examples = refl
 pub rulings : Ruled
 unfolding computing
 rulings = (refl, refl, refl, refl, refl, refl)
+
+pub file-rulings : FilesRuled
+unfolding computing
+file-rulings = refl

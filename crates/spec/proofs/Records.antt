@@ -14,29 +14,29 @@ use Rattle.spec.proofs.Removal.{AllWin}
 use Rattle.spec.specs.Listing.{recordOf, records}
 use Rattle.spec.proofs.Tests.{clash}
 
-pub record-length : (p : ℕ) (r : Reading) → canWin r ≡ true → length (recordOf p r) ≡ 8
+pub record-length : (p n : ℕ) (r : Reading) → canWin r ≡ true → length (recordOf p n r) ≡ 12
 unfolding canWin recordOf
-record-length p malformed e = clash (sym e)
-record-length p ignored e = clash (sym e)
-record-length p (link n) e = clash (sym e)
-record-length p (capability a b s) e = refl
+record-length p n malformed e = clash (sym e)
+record-length p n ignored e = clash (sym e)
+record-length p n (link m) e = clash (sym e)
+record-length p n (capability a b s) e = refl
 
-pub records-length : (fs : List Field) → AllWin (texts fs) → length (records fs) ≡ 8 * length fs
+pub records-length : (fs : List Field) → AllWin (texts fs) → length (records fs) ≡ 12 * length fs
 unfolding records texts
 records-length [] h = refl
 records-length (f ∷ fs) h =
     omega (
       arith,
-      length-append (recordOf (f .place) (reading (f .text))) (records fs),
-      record-length (f .place) (reading (f .text)) (h .0),
-      records-length fs
-          (h .2),
+      length-append (recordOf (f .place) (f .file) (reading (f .text))) (records fs),
+      record-length (f .place) (f .file) (reading (f .text))
+          (h .0),
+      records-length fs (h .2),
     )
 
-pub placed-length : (p : ℕ) (fs : List Field) → length (placed p (texts fs)) ≡ length fs
+pub placed-length : (p n : ℕ) (fs : List Field) → length (placed p n (texts fs)) ≡ length fs
 unfolding placed texts
-placed-length p [] = refl
-placed-length p (f ∷ fs) = ap suc (placed-length p fs)
+placed-length p n [] = refl
+placed-length p n (f ∷ fs) = ap suc (placed-length p n fs)
 
 -- ---- values fit in two bytes, and so in a record's four
 

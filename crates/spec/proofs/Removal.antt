@@ -141,10 +141,10 @@ win-judge (t ∷ ts) h = win-judged (reading t) ts (judge ts) (h .0) ∙ win-jud
 
 module _ (id : List ℕ) (k : ℕ) where
   -- the answer does not depend on places
-  pub lookup-placed : (p : ℕ) (fs : List Field) → lookup id k (placed p (texts fs)) ≡ lookup id k fs
+  pub lookup-placed : (p n : ℕ) (fs : List Field) → lookup id k (placed p n (texts fs)) ≡ lookup id k fs
   unfolding lookup placed texts
-  lookup-placed p [] = refl
-  lookup-placed p (f ∷ fs) = rw (lookup-placed p fs)
+  lookup-placed p n [] = refl
+  lookup-placed p n (f ∷ fs) = rw (lookup-placed p n fs)
 
   pub lookup-cancel : (f : Field) (fs : List Field) → matches id 0 (reading (f .text)) ≡ true → lookup id k (f ∷ fs) ≡ none
   unfolding lookup

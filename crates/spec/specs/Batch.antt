@@ -6,6 +6,7 @@ use lib.Dec.{eqb}
 use lib.ListN.{length}
 use Rattle.spec.specs.Choice.{pick, both}
 use Rattle.spec.specs.Refusals.{refusalNumber, idBytes, goodName, tooLarge}
+use Rattle.spec.specs.Files.{Files, goodEnds, contents}
 use Rattle.spec.specs.Fields.{kindOf}
 use Rattle.spec.specs.Chain.{Terminal, resolve}
 use Rattle.spec.specs.Answers.{Outcome, keeping, put, Report, writtenReport}
@@ -13,7 +14,7 @@ use Rattle.spec.specs.Questions.{answerFor}
 use Rattle.spec.specs.Listing.{fourBytes}
 use Rattle.spec.specs.declared.Numbered.{Numbered}
 use Rattle.spec.specs.declared.Numbered.the-variants.{Is, Nothing}
-use Rattle.spec.specs.declared.Refusal.the-variants.{BadName, BadId, DatabaseTooLarge, PartialQuestion}
+use Rattle.spec.specs.declared.Refusal.the-variants.{BadName, BadId, DatabaseTooLarge, PartialQuestion, BadEnds}
 use Rattle.spec.specs.declared.Answer.{Answer}
 use Rattle.spec.specs.declared.Answer.the-variants.{Present, Absent, Refused}
 use Rattle.spec.specs.declared.Written.{Written}
@@ -46,16 +47,18 @@ batchAnswers t (a ∷ b ∷ []) = []
 batchAnswers t (a ∷ b ∷ k ∷ []) = []
 batchAnswers t (a ∷ b ∷ k ∷ z ∷ qs) = answerBytes (batchAnswer t a b k z) ++ batchAnswers t qs
 
--- "The whole call is refused with 1, 3, 15 (a question buffer that isn't a multiple of four) and 9, in that order." One walk for all; the
--- number that is reported is that of the answers.
-unfoldable pub batchOutcome : List ℕ → List ℕ → List ℕ → List ℕ → Outcome Written
+-- "The whole call is refused with 1, 3, 15 (a question buffer that isn't a multiple of four) and 9, in that order"; 16 comes "before all
+-- others". One walk for all; the number that is reported is that of the answers.
+unfoldable pub batchOutcome : Files → List ℕ → List ℕ → List ℕ → Outcome Written
 batchOutcome db name questions buffer =
-    pick (goodName name)
-    (pick (tooLarge db) (keeping (NotWritten DatabaseTooLarge) buffer)
+    pick (goodEnds db)
+    (pick (goodName name)
+    (pick (tooLarge (db .bytes)) (keeping (NotWritten DatabaseTooLarge) buffer)
     (pick (eqb (length questions % 4) 0)
-    (put (batchAnswers (resolve db name) questions) (length questions / 4) buffer)
+    (put (batchAnswers (resolve (contents db) name) questions) (length questions / 4) buffer)
     (keeping (NotWritten PartialQuestion) buffer)))
-    (keeping (NotWritten BadName) buffer)
+    (keeping (NotWritten BadName) buffer))
+    (keeping (NotWritten BadEnds) buffer)
 
-abbrev pub batchReport : List ℕ → List ℕ → List ℕ → List ℕ → Report
+abbrev pub batchReport : Files → List ℕ → List ℕ → List ℕ → Report
 batchReport db name questions buffer = writtenReport (batchOutcome db name questions buffer .answer)

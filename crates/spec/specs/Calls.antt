@@ -5,6 +5,7 @@ use Prim.Native.String.{String as Chars}
 use mathlib.Core.Path.{_≡_}
 use mathlib.Core.List.{List, [], _∷_, _++_, map}
 use lib.ListN.{length, replicate}
+use Rattle.spec.specs.Files.{files, alone}
 use Rattle.spec.specs.Answers.{Outcome, keeping, Report, answerReport, writtenReport, repairedReport}
 use Rattle.spec.specs.Questions.{showReport, flagReport, numberReport, stringOutcome}
 use Rattle.spec.specs.Listing.{listOutcome, flatOutcome}
@@ -19,7 +20,8 @@ ascii (Chars._∷_ c s) = code c ∷ ascii s
 
 -- A call. Those with output have a buffer of so many bytes (the last number), all 255. A batch has its questions' bytes. Send is for so many
 -- lines at a speed, with the pad byte 0; Send at for a row and a column, with a back and an up string, for one line at speed 0. Repair has
--- two buffers, the second for its records; they are stated one after the other.
+-- two buffers, the second for its records; they are stated one after the other. Those that end in `In` are about files with these ends, the
+-- others about a single file.
 pub data Call : Type 0 where
   show : Chars → Chars → Call
   flag : Chars → Chars → Chars → Call
@@ -28,6 +30,11 @@ pub data Call : Type 0 where
   list : Chars → Chars → ℕ → Call
   flat : Chars → Chars → ℕ → Call
   batch : Chars → Chars → List ℕ → ℕ → Call
+  showIn : Chars → List ℕ → Chars → Call
+  flagIn : Chars → List ℕ → Chars → Chars → Call
+  listIn : Chars → List ℕ → Chars → ℕ → Call
+  flatIn : Chars → List ℕ → Chars → ℕ → Call
+  batchIn : Chars → List ℕ → Chars → List ℕ → ℕ → Call
   repair : Chars → ℕ → ℕ → Call
   send : List ℕ → ℕ → ℕ → ℕ → Call
   sendAt : List ℕ → ℕ → ℕ → List ℕ → List ℕ → ℕ → Call
@@ -43,13 +50,18 @@ bothBuffers o = record { answer = repairedReport (o .answer); buffer = o .text +
 
 -- The report of the answer, and the buffer afterwards.
 abbrev pub computed : Call → Outcome Report
-computed (show db name) = keeping (showReport (ascii db) (ascii name)) []
-computed (flag db name id) = keeping (flagReport (ascii db) (ascii name) (ascii id)) []
-computed (number db name id) = keeping (numberReport (ascii db) (ascii name) (ascii id)) []
-computed (string db name id room) = reported answerReport (stringOutcome (ascii db) (ascii name) (ascii id) (lent room))
-computed (list db name room) = reported writtenReport (listOutcome (ascii db) (ascii name) (lent room))
-computed (flat db name room) = reported writtenReport (flatOutcome (ascii db) (ascii name) (lent room))
-computed (batch db name questions room) = reported writtenReport (batchOutcome (ascii db) (ascii name) questions (lent room))
+computed (show db name) = keeping (showReport (alone (ascii db)) (ascii name)) []
+computed (flag db name id) = keeping (flagReport (alone (ascii db)) (ascii name) (ascii id)) []
+computed (number db name id) = keeping (numberReport (alone (ascii db)) (ascii name) (ascii id)) []
+computed (string db name id room) = reported answerReport (stringOutcome (alone (ascii db)) (ascii name) (ascii id) (lent room))
+computed (list db name room) = reported writtenReport (listOutcome (alone (ascii db)) (ascii name) (lent room))
+computed (flat db name room) = reported writtenReport (flatOutcome (alone (ascii db)) (ascii name) (lent room))
+computed (batch db name questions room) = reported writtenReport (batchOutcome (alone (ascii db)) (ascii name) questions (lent room))
+computed (showIn db ends name) = keeping (showReport (files (ascii db) ends) (ascii name)) []
+computed (flagIn db ends name id) = keeping (flagReport (files (ascii db) ends) (ascii name) (ascii id)) []
+computed (listIn db ends name room) = reported writtenReport (listOutcome (files (ascii db) ends) (ascii name) (lent room))
+computed (flatIn db ends name room) = reported writtenReport (flatOutcome (files (ascii db) ends) (ascii name) (lent room))
+computed (batchIn db ends name questions room) = reported writtenReport (batchOutcome (files (ascii db) ends) (ascii name) questions (lent room))
 computed (repair db room more) = bothBuffers (repairOutcome (ascii db) (lent room) (lent more))
 computed (send cmd lines speed room) = reported writtenReport (sendOutcome cmd lines speed 0 (lent room))
 computed (sendAt cmd row column back up room) = reported writtenReport (sendAtOutcome cmd row column back up 1 0 0 (lent room))

@@ -3,6 +3,7 @@ pub mod Lists
 pub mod Digits
 pub mod Refusals
 pub mod Lines
+pub mod Files
 pub mod Strings
 pub mod Fields
 pub mod Chain
@@ -20,3 +21,4 @@ pub mod Sending
 pub mod Calls
 pub mod Examples
 pub mod Rulings
+pub mod FileRulings

@@ -3,6 +3,7 @@ use Prim.Native.Nat.{ℕ, _+_, _-_, _*_, _/_, _%_, _≤_}
 use mathlib.Core.List.{List, [], _∷_, _++_}
 use lib.ListN.{length}
 use Rattle.spec.specs.Fields.{Reading, malformed, ignored, link, capability, reading, withColons, contentKind, contentValue}
+use Rattle.spec.specs.Files.{Files}
 use Rattle.spec.specs.Chain.{Field, texts, Terminal, refused, terminal}
 use Rattle.spec.specs.Lookup.{winning}
 use Rattle.spec.specs.Answers.{Outcome, keeping, put, Report, writtenReport}
@@ -16,26 +17,27 @@ use Rattle.spec.specs.declared.Written.the-variants.{Refused}
 abbrev pub fourBytes : ℕ → List ℕ
 fourBytes v = v / 16777216 % 256 ∷ v / 65536 % 256 ∷ v / 256 % 256 ∷ v % 256 ∷ []
 
--- "Two name bytes; kind; place of the description in the chain from 0; a 32-bit value."
-unfoldable pub recordOf : ℕ → Reading → List ℕ
-recordOf place malformed = []
-recordOf place ignored = []
-recordOf place (link n) = []
-recordOf place (capability a b c) = a ∷ b ∷ contentKind c ∷ place ∷ fourBytes (contentValue c)
+-- "Two name bytes; kind; place of the description in the chain from 0; a 32-bit value"; Ask 5: "12 bytes, with the file number from 0 and
+-- three zeros at the end".
+unfoldable pub recordOf : ℕ → ℕ → Reading → List ℕ
+recordOf place file malformed = []
+recordOf place file ignored = []
+recordOf place file (link n) = []
+recordOf place file (capability a b c) = a ∷ b ∷ contentKind c ∷ place ∷ fourBytes (contentValue c) ++ file ∷ 0 ∷ 0 ∷ 0 ∷ []
 
 -- "Records stand in the order of the winning fields. No header."
 unfoldable pub records : List Field → List ℕ
 records [] = []
-records (f ∷ fs) = recordOf (f .place) (reading (f .text)) ++ records fs
+records (f ∷ fs) = recordOf (f .place) (f .file) (reading (f .text)) ++ records fs
 
 unfoldable pub listFor : Terminal → List ℕ → Outcome Written
 listFor (refused r) buffer = keeping (Refused r) buffer
 listFor (terminal names fs) buffer = put (records (winning fs)) (length (winning fs)) buffer
 
-unfoldable pub listOutcome : List ℕ → List ℕ → List ℕ → Outcome Written
+unfoldable pub listOutcome : Files → List ℕ → List ℕ → Outcome Written
 listOutcome db name buffer = listFor (terminalOf db name) buffer
 
-abbrev pub listReport : List ℕ → List ℕ → List ℕ → Report
+abbrev pub listReport : Files → List ℕ → List ℕ → Report
 listReport db name buffer = writtenReport (listOutcome db name buffer .answer)
 
 -- ---- Flat: "the first line's names, a colon, then each winning field as written (joined) with a colon, then a newline"
@@ -47,10 +49,10 @@ unfoldable pub flatFor : Terminal → List ℕ → Outcome Written
 flatFor (refused r) buffer = keeping (Refused r) buffer
 flatFor (terminal names fs) buffer = put (flatText names fs) (length (flatText names fs)) buffer
 
-unfoldable pub flatOutcome : List ℕ → List ℕ → List ℕ → Outcome Written
+unfoldable pub flatOutcome : Files → List ℕ → List ℕ → Outcome Written
 flatOutcome db name buffer = flatFor (terminalOf db name) buffer
 
-abbrev pub flatReport : List ℕ → List ℕ → List ℕ → Report
+abbrev pub flatReport : Files → List ℕ → List ℕ → Report
 flatReport db name buffer = writtenReport (flatOutcome db name buffer .answer)
 
 -- ---- what an accepted chain can need at most
@@ -61,9 +63,9 @@ abbrev pub mostWinning : ℕ
 mostWinning = (16384 - 2) / 3
 
 abbrev pub recordSize : ℕ
-recordSize = 8
+recordSize = 12
 
--- 43,680 bytes of records.
+-- 65,520 bytes of records.
 abbrev pub mostRecordBytes : ℕ
 mostRecordBytes = mostWinning * recordSize
 

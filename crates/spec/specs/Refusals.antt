@@ -6,7 +6,24 @@ use lib.Dec.{eqb, ltb}
 use lib.ListN.{length}
 use Rattle.spec.specs.Choice.{both, either, between}
 use Rattle.spec.specs.declared.Refusal.{Refusal}
-use Rattle.spec.specs.declared.Refusal.the-variants.{BadName, BadId, DatabaseTooLarge, UnknownName, LostLink, Malformed, Cycle, ChainTooLarge, NoRoom, UnknownSequence, TooFewParameters, OutOfRange, BadPadding, TooManyLines, PartialQuestion}
+use Rattle.spec.specs.declared.Refusal.the-variants.{
+  BadName,
+  BadId,
+  DatabaseTooLarge,
+  UnknownName,
+  LostLink,
+  Malformed,
+  Cycle,
+  ChainTooLarge,
+  NoRoom,
+  UnknownSequence,
+  TooFewParameters,
+  OutOfRange,
+  BadPadding,
+  TooManyLines,
+  PartialQuestion,
+  BadEnds,
+}
 
 abbrev pub refusalNumber : Refusal → ℕ
 refusalNumber BadName = 1
@@ -24,6 +41,7 @@ refusalNumber OutOfRange = 12
 refusalNumber BadPadding = 13
 refusalNumber TooManyLines = 14
 refusalNumber PartialQuestion = 15
+refusalNumber BadEnds = 16
 
 -- ---- 1: an asked name is 1 to 64 bytes of 32..126, none a bar (124), a colon (58) or a backslash (92)
 

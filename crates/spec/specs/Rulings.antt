@@ -84,7 +84,7 @@ fieldRulings =
     ∷ example (number "n:li#65535:" "n" "li") (reports (65535 ∷ []) [] 0)
     ∷ example (number "n:li#65536:" "n" "li") (refuses 6 0)
     -- a record has the value; Flat copies the digits as written, and alone it answers the same
-    ∷ example (list "n:li#030:" "n" 8) (reports (1 ∷ []) (108 ∷ 105 ∷ 2 ∷ 0 ∷ 0 ∷ 0 ∷ 0 ∷ 24 ∷ []) 0)
+    ∷ example (list "n:li#030:" "n" 12) (reports (1 ∷ []) (108 ∷ 105 ∷ 2 ∷ 0 ∷ 0 ∷ 0 ∷ 0 ∷ 24 ∷ 0 ∷ 0 ∷ 0 ∷ 0 ∷ []) 0)
     ∷ example (flat "n:li#030:" "n" 10) (reports (10 ∷ []) (ascii "n:li#030:\n") 0)
     ∷ example (number "n:li#030:\n" "n" "li") (reports (24 ∷ []) [] 0)
     -- 1 before 2 before the walk; an absent string needs no room

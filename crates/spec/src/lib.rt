@@ -9,6 +9,9 @@ pub mod position;
 // A database of more bytes is refused with 3.
 pub const MOST_BYTES: usize = 1048576;
 
+// More files in one buffer are refused with 16.
+pub const MOST_FILES: usize = 8;
+
 // A database with more lines that are not ignored is not repaired: 14.
 pub const MOST_LINES: usize = 4096;
 
@@ -29,6 +32,7 @@ pub enum Refusal {
     BadPadding,
     TooManyLines,
     PartialQuestion,
+    BadEnds,
 }
 
 impl Refusal {
@@ -51,6 +55,7 @@ impl Refusal {
             Refusal::BadPadding => 13,
             Refusal::TooManyLines => 14,
             Refusal::PartialQuestion => 15,
+            Refusal::BadEnds => 16,
         }
     }
 }
@@ -122,8 +127,20 @@ pub enum Shown {
     Refused(Refusal),
 }
 
-// The answer of a search for a line: the place in the database where it starts.
+// The answer of a search for a line in one file: the place in it where the line starts.
 pub enum Found {
     At(usize),
+    Nothing,
+}
+
+// A line of several files: the number of its file, from 0, and the place in it where it starts.
+pub struct Location {
+    pub file: u8,
+    pub at: usize,
+}
+
+// The answer of a search for a line in several files.
+pub enum Located {
+    At(Location),
     Nothing,
 }

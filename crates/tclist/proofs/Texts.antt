@@ -11,6 +11,7 @@ use lib.Seq.{sets, drop-cons}
 use Rattle.spec.specs.Digits.{written}
 use Rattle.spec.proofs.DigitLaws.{written-most}
 use Rattle.spec.proofs.Stores.{stored-append}
+use Rattle.spec.specs.Files.{Files}
 use Rattle.spec.specs.Chain.{Terminal, refused, terminal}
 use Rattle.spec.specs.Lookup.{winning}
 use Rattle.spec.specs.Answers.{Outcome, put}
@@ -41,14 +42,14 @@ module _ (l : List ℕ) (k : ℕ) where
   decimals-next h = ap (decimals k) (drop-cons l k 0 h) ∙ rw add-one
 
 -- the records that are reported lie within the buffer
-pub list-fits : (db name buffer : List ℕ) (n : ℕ) → listOutcome db name buffer .answer ≡ Count n → 8 * n ≤ length buffer
+pub list-fits : (db : Files) (name buffer : List ℕ) (n : ℕ) → listOutcome db name buffer .answer ≡ Count n → 12 * n ≤ length buffer
 unfolding listOutcome listFor put
 list-fits db name buffer n = go (terminalOf db name)
   where
-    go : (t : Terminal) → listFor t buffer .answer ≡ Count n → 8 * n ≤ length buffer
+    go : (t : Terminal) → listFor t buffer .answer ≡ Count n → 12 * n ≤ length buffer
     go (refused r) e = let z : _≡_ {A = ℕ} 0 1 = cc in absurd (omega arith)
     go (terminal names fs) f =
         let size = length (records (winning fs)) in
-        pick-told (λ (o : Outcome Written). o .answer ≡ Count n → 8 * n ≤ length buffer) (leb size (length buffer))
+        pick-told (λ (o : Outcome Written). o .answer ≡ Count n → 12 * n ≤ length buffer) (leb size (length buffer))
         (λ t e. let same : length (winning fs) ≡ n = cc in omega (arith, records-length (winning fs) (winning-wins fs), leb-true size (length buffer) t))
         (λ t e. let z : _≡_ {A = ℕ} 0 1 = cc in absurd (omega arith)) f

@@ -13,7 +13,7 @@ use Rattle.spec.specs.declared.Written.the-variants.{Count, Refused}
 
 -- After the last byte of a record stands a newline (10), after any other a space (32).
 abbrev pub separatorOf : ℕ → ℕ
-separatorOf k = pick (eqb (k % 8) 7) 10 32
+separatorOf k = pick (eqb (k % 12) 11) 10 32
 
 -- The bytes of records in decimal, from the k-th on.
 unfoldable pub decimals : ℕ → List ℕ → List ℕ
@@ -22,7 +22,7 @@ decimals k (b ∷ l) = written 10 1 b ++ separatorOf k ∷ decimals (k + 1) l
 
 -- One record a line, or the refusal's number alone.
 unfoldable pub answerText : Written → List ℕ → List ℕ
-answerText (Count n) records = decimals 0 (take (8 * n) records)
+answerText (Count n) records = decimals 0 (take (12 * n) records)
 answerText (Refused r) records = written 10 1 (refusalNumber r) ++ 10 ∷ []
 
 -- A text that was put at the start of a buffer, and its length.

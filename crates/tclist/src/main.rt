@@ -15,6 +15,7 @@ ghost use mathlib.Core.Path.{_≡_};
 ghost use lib.ListN.{length};
 ghost use lib.Seq.{sets};
 ghost use Rattle.io.specs.Counts.{Counts};
+ghost use Rattle.spec.specs.Files.{alone};
 ghost use Rattle.spec.specs.Digits.{written};
 ghost use Rattle.spec.specs.Listing.{listOutcome};
 ghost use Rattle.spec.specs.declared.Written.the-variants.{Refused};
@@ -29,11 +30,11 @@ const FILE_ROOM: usize = 65537;
 const NAME_ROOM: usize = 65;
 
 // 5,460 records can be live, so that the room never refuses a listing. A byte takes three digits and a separator at most.
-const RECORD_BYTES: usize = 8;
+const RECORD_BYTES: usize = 12;
 
-const RECORDS_ROOM: usize = 43680;
+const RECORDS_ROOM: usize = 65520;
 
-const TEXT_ROOM: usize = 174724;
+const TEXT_ROOM: usize = 262084;
 
 // ---- the text of an answer
 
@@ -49,14 +50,14 @@ fn put_decimal(out: &mut [u8], at: usize, b: u8) -> usize
 fn separator(k: usize) -> u8
     ensures { λ r. ⌜ r ≡ separatorOf k ⌝ }
 {
-    if k % RECORD_BYTES == 7 {
+    if k % RECORD_BYTES == 11 {
         return b'\n';
     }
     b' '
 }
 
 fn put_records(records: &[u8], out: &mut [u8]) -> usize
-    requires { ⌜ length (now records) ≤ 43680 ⌝ }
+    requires { ⌜ length (now records) ≤ 65520 ⌝ }
     ensures { λ r. ⌜ PutText (decimals 0 (now (records .entry))) r (now (out .entry)) (now (out .exit)) ⌝ }
     ensures { λ r. ⌜ r ≤ 4 * length (now (records .entry)) ⌝ }
 {
@@ -80,14 +81,23 @@ fn put_refusal(r: Refusal, out: &mut [u8]) -> usize
     end + 1
 }
 
+// The listing of a terminal in a single file.
+fn list_alone(db: &[u8], name: &[u8], records: &mut [u8]) -> Written
+    ensures { λ r. ⌜ (r ≡ listOutcome (alone (now (db .entry))) (now (name .entry)) (now (records .entry)) .answer)
+        × (now (records .exit) ≡ listOutcome (alone (now (db .entry))) (now (name .entry)) (now (records .entry)) .buffer) ⌝ }
+{
+    let ends = [db.len()];
+    list(db, &ends, name, records)
+}
+
 // The listing's text at the start of a buffer, by way of the records.
 fn put_listing(db: &[u8], name: &[u8], records: &mut [u8], out: &mut [u8]) -> usize
-    requires { ⌜ (length (now records) ≤ 43680) × (174724 ≤ length (now out)) ⌝ }
-    ensures { λ r. ⌜ PutText (answerText (listOutcome (now (db .entry)) (now (name .entry)) (now (records .entry)) .answer)
-        (listOutcome (now (db .entry)) (now (name .entry)) (now (records .entry)) .buffer)) r (now (out .entry)) (now (out .exit)) ⌝ }
+    requires { ⌜ (length (now records) ≤ 65520) × (262084 ≤ length (now out)) ⌝ }
+    ensures { λ r. ⌜ PutText (answerText (listOutcome (alone (now (db .entry))) (now (name .entry)) (now (records .entry)) .answer)
+        (listOutcome (alone (now (db .entry))) (now (name .entry)) (now (records .entry)) .buffer)) r (now (out .entry)) (now (out .exit)) ⌝ }
     ensures { λ r. ⌜ Counts r (now (out .exit)) ⌝ }
 {
-    match list(db, name, records) {
+    match list_alone(db, name, records) {
         Written::Count(n) => put_records(&records[..RECORD_BYTES * n], out),
         Written::Refused(r) => put_refusal(r, out),
     }

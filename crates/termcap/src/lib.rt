@@ -23,6 +23,7 @@ pub use spec::Repaired;
 pub use spec::Shown;
 pub use spec::Written;
 ghost use mathlib.Core.Path.{_≡_};
+ghost use Rattle.spec.specs.Files.{files, alone};
 ghost use Rattle.spec.specs.Answers.{answerReport, writtenReport};
 ghost use Rattle.spec.specs.Questions.{showReport, flagReport, numberReport, stringOutcome, stringReport};
 ghost use Rattle.spec.specs.Listing.{listOutcome, listReport, flatOutcome, flatReport};
@@ -58,14 +59,22 @@ fn give_count(w: Written, count: &mut u64) -> u32
     }
 }
 
-// "The part of the caller's database that holds the first description with that name."
+// Each operation over several files comes with the same for a single one that fills the buffer.
+
+// "The part of the caller's database that holds the first description with that name": its place in the buffer.
 #[no_mangle]
-pub extern "C" fn termcap_show(db: &[u8], name: &[u8], start: &mut u64, length: &mut u64) -> u32
-    ensures { λ r. ⌜ (r ≡ resultOf (showReport (now (db .entry)) (now (name .entry))))
-        × (now (start .exit) ≡ storedValue (showReport (now (db .entry)) (now (name .entry))) (now (start .entry)))
-        × (now (length .exit) ≡ storedLength (showReport (now (db .entry)) (now (name .entry))) (now (length .entry))) ⌝ }
+pub extern "C" fn termcap_show_files(
+    db: &[u8],
+    ends: &[usize],
+    name: &[u8],
+    start: &mut u64,
+    length: &mut u64,
+) -> u32
+    ensures { λ r. ⌜ (r ≡ resultOf (showReport (files (now (db .entry)) (now (ends .entry))) (now (name .entry))))
+        × (now (start .exit) ≡ storedValue (showReport (files (now (db .entry)) (now (ends .entry))) (now (name .entry))) (now (start .entry)))
+        × (now (length .exit) ≡ storedLength (showReport (files (now (db .entry)) (now (ends .entry))) (now (name .entry))) (now (length .entry))) ⌝ }
 {
-    match show_part(db, name) {
+    match show_part(db, ends, name) {
         Shown::Part(from, to) => {
             *start = from as u64;
             *length = (to - from) as u64;
@@ -76,19 +85,75 @@ pub extern "C" fn termcap_show(db: &[u8], name: &[u8], start: &mut u64, length: 
 }
 
 #[no_mangle]
-pub extern "C" fn termcap_flag(db: &[u8], name: &[u8], id: &[u8], value: &mut u64) -> u32
-    ensures { λ r. ⌜ (r ≡ resultOf (flagReport (now (db .entry)) (now (name .entry)) (now (id .entry))))
-        × (now (value .exit) ≡ storedValue (flagReport (now (db .entry)) (now (name .entry)) (now (id .entry))) (now (value .entry))) ⌝ }
+pub extern "C" fn termcap_show(db: &[u8], name: &[u8], start: &mut u64, length: &mut u64) -> u32
+    ensures { λ r. ⌜ (r ≡ resultOf (showReport (alone (now (db .entry))) (now (name .entry))))
+        × (now (start .exit) ≡ storedValue (showReport (alone (now (db .entry))) (now (name .entry))) (now (start .entry)))
+        × (now (length .exit) ≡ storedLength (showReport (alone (now (db .entry))) (now (name .entry))) (now (length .entry))) ⌝ }
 {
-    give_answer(flag(db, name, id), value)
+    let ends = [db.len()];
+    termcap_show_files(db, &ends, name, start, length)
+}
+
+#[no_mangle]
+pub extern "C" fn termcap_flag_files(
+    db: &[u8],
+    ends: &[usize],
+    name: &[u8],
+    id: &[u8],
+    value: &mut u64,
+) -> u32
+    ensures { λ r. ⌜ (r ≡ resultOf (flagReport (files (now (db .entry)) (now (ends .entry))) (now (name .entry)) (now (id .entry))))
+        × (now (value .exit) ≡ storedValue (flagReport (files (now (db .entry)) (now (ends .entry))) (now (name .entry)) (now (id .entry))) (now (value .entry))) ⌝ }
+{
+    give_answer(flag(db, ends, name, id), value)
+}
+
+#[no_mangle]
+pub extern "C" fn termcap_flag(db: &[u8], name: &[u8], id: &[u8], value: &mut u64) -> u32
+    ensures { λ r. ⌜ (r ≡ resultOf (flagReport (alone (now (db .entry))) (now (name .entry)) (now (id .entry))))
+        × (now (value .exit) ≡ storedValue (flagReport (alone (now (db .entry))) (now (name .entry)) (now (id .entry))) (now (value .entry))) ⌝ }
+{
+    let ends = [db.len()];
+    termcap_flag_files(db, &ends, name, id, value)
+}
+
+#[no_mangle]
+pub extern "C" fn termcap_number_files(
+    db: &[u8],
+    ends: &[usize],
+    name: &[u8],
+    id: &[u8],
+    value: &mut u64,
+) -> u32
+    ensures { λ r. ⌜ (r ≡ resultOf (numberReport (files (now (db .entry)) (now (ends .entry))) (now (name .entry)) (now (id .entry))))
+        × (now (value .exit) ≡ storedValue (numberReport (files (now (db .entry)) (now (ends .entry))) (now (name .entry)) (now (id .entry))) (now (value .entry))) ⌝ }
+{
+    give_answer(number(db, ends, name, id), value)
 }
 
 #[no_mangle]
 pub extern "C" fn termcap_number(db: &[u8], name: &[u8], id: &[u8], value: &mut u64) -> u32
-    ensures { λ r. ⌜ (r ≡ resultOf (numberReport (now (db .entry)) (now (name .entry)) (now (id .entry))))
-        × (now (value .exit) ≡ storedValue (numberReport (now (db .entry)) (now (name .entry)) (now (id .entry))) (now (value .entry))) ⌝ }
+    ensures { λ r. ⌜ (r ≡ resultOf (numberReport (alone (now (db .entry))) (now (name .entry)) (now (id .entry))))
+        × (now (value .exit) ≡ storedValue (numberReport (alone (now (db .entry))) (now (name .entry)) (now (id .entry))) (now (value .entry))) ⌝ }
 {
-    give_answer(number(db, name, id), value)
+    let ends = [db.len()];
+    termcap_number_files(db, &ends, name, id, value)
+}
+
+#[no_mangle]
+pub extern "C" fn termcap_string_files(
+    db: &[u8],
+    ends: &[usize],
+    name: &[u8],
+    id: &[u8],
+    out: &mut [u8],
+    count: &mut u64,
+) -> u32
+    ensures { λ r. ⌜ (r ≡ resultOf (stringReport (files (now (db .entry)) (now (ends .entry))) (now (name .entry)) (now (id .entry)) (now (out .entry))))
+        × (now (out .exit) ≡ stringOutcome (files (now (db .entry)) (now (ends .entry))) (now (name .entry)) (now (id .entry)) (now (out .entry)) .buffer)
+        × (now (count .exit) ≡ storedValue (stringReport (files (now (db .entry)) (now (ends .entry))) (now (name .entry)) (now (id .entry)) (now (out .entry))) (now (count .entry))) ⌝ }
+{
+    give_answer(string(db, ends, name, id, out), count)
 }
 
 #[no_mangle]
@@ -99,32 +164,82 @@ pub extern "C" fn termcap_string(
     out: &mut [u8],
     count: &mut u64,
 ) -> u32
-    ensures { λ r. ⌜ (r ≡ resultOf (stringReport (now (db .entry)) (now (name .entry)) (now (id .entry)) (now (out .entry))))
-        × (now (out .exit) ≡ stringOutcome (now (db .entry)) (now (name .entry)) (now (id .entry)) (now (out .entry)) .buffer)
-        × (now (count .exit) ≡ storedValue (stringReport (now (db .entry)) (now (name .entry)) (now (id .entry)) (now (out .entry))) (now (count .entry))) ⌝ }
+    ensures { λ r. ⌜ (r ≡ resultOf (stringReport (alone (now (db .entry))) (now (name .entry)) (now (id .entry)) (now (out .entry))))
+        × (now (out .exit) ≡ stringOutcome (alone (now (db .entry))) (now (name .entry)) (now (id .entry)) (now (out .entry)) .buffer)
+        × (now (count .exit) ≡ storedValue (stringReport (alone (now (db .entry))) (now (name .entry)) (now (id .entry)) (now (out .entry))) (now (count .entry))) ⌝ }
 {
-    give_answer(string(db, name, id, out), count)
+    let ends = [db.len()];
+    termcap_string_files(db, &ends, name, id, out, count)
+}
+
+#[no_mangle]
+pub extern "C" fn termcap_list_files(
+    db: &[u8],
+    ends: &[usize],
+    name: &[u8],
+    out: &mut [u8],
+    records: &mut u64,
+) -> u32
+    ensures { λ r. ⌜ (r ≡ resultOf (listReport (files (now (db .entry)) (now (ends .entry))) (now (name .entry)) (now (out .entry))))
+        × (now (out .exit) ≡ listOutcome (files (now (db .entry)) (now (ends .entry))) (now (name .entry)) (now (out .entry)) .buffer)
+        × (now (records .exit) ≡ storedValue (listReport (files (now (db .entry)) (now (ends .entry))) (now (name .entry)) (now (out .entry))) (now (records .entry))) ⌝ }
+{
+    give_count(list(db, ends, name, out), records)
 }
 
 #[no_mangle]
 pub extern "C" fn termcap_list(db: &[u8], name: &[u8], out: &mut [u8], records: &mut u64) -> u32
-    ensures { λ r. ⌜ (r ≡ resultOf (listReport (now (db .entry)) (now (name .entry)) (now (out .entry))))
-        × (now (out .exit) ≡ listOutcome (now (db .entry)) (now (name .entry)) (now (out .entry)) .buffer)
-        × (now (records .exit) ≡ storedValue (listReport (now (db .entry)) (now (name .entry)) (now (out .entry))) (now (records .entry))) ⌝ }
+    ensures { λ r. ⌜ (r ≡ resultOf (listReport (alone (now (db .entry))) (now (name .entry)) (now (out .entry))))
+        × (now (out .exit) ≡ listOutcome (alone (now (db .entry))) (now (name .entry)) (now (out .entry)) .buffer)
+        × (now (records .exit) ≡ storedValue (listReport (alone (now (db .entry))) (now (name .entry)) (now (out .entry))) (now (records .entry))) ⌝ }
 {
-    give_count(list(db, name, out), records)
+    let ends = [db.len()];
+    termcap_list_files(db, &ends, name, out, records)
+}
+
+#[no_mangle]
+pub extern "C" fn termcap_flat_files(
+    db: &[u8],
+    ends: &[usize],
+    name: &[u8],
+    out: &mut [u8],
+    count: &mut u64,
+) -> u32
+    ensures { λ r. ⌜ (r ≡ resultOf (flatReport (files (now (db .entry)) (now (ends .entry))) (now (name .entry)) (now (out .entry))))
+        × (now (out .exit) ≡ flatOutcome (files (now (db .entry)) (now (ends .entry))) (now (name .entry)) (now (out .entry)) .buffer)
+        × (now (count .exit) ≡ storedValue (flatReport (files (now (db .entry)) (now (ends .entry))) (now (name .entry)) (now (out .entry))) (now (count .entry))) ⌝ }
+{
+    give_count(flat(db, ends, name, out), count)
 }
 
 #[no_mangle]
 pub extern "C" fn termcap_flat(db: &[u8], name: &[u8], out: &mut [u8], count: &mut u64) -> u32
-    ensures { λ r. ⌜ (r ≡ resultOf (flatReport (now (db .entry)) (now (name .entry)) (now (out .entry))))
-        × (now (out .exit) ≡ flatOutcome (now (db .entry)) (now (name .entry)) (now (out .entry)) .buffer)
-        × (now (count .exit) ≡ storedValue (flatReport (now (db .entry)) (now (name .entry)) (now (out .entry))) (now (count .entry))) ⌝ }
+    ensures { λ r. ⌜ (r ≡ resultOf (flatReport (alone (now (db .entry))) (now (name .entry)) (now (out .entry))))
+        × (now (out .exit) ≡ flatOutcome (alone (now (db .entry))) (now (name .entry)) (now (out .entry)) .buffer)
+        × (now (count .exit) ≡ storedValue (flatReport (alone (now (db .entry))) (now (name .entry)) (now (out .entry))) (now (count .entry))) ⌝ }
 {
-    give_count(flat(db, name, out), count)
+    let ends = [db.len()];
+    termcap_flat_files(db, &ends, name, out, count)
 }
 
 // "A buffer of 4-byte questions": an answer of eight bytes for each, in `out`.
+#[no_mangle]
+pub extern "C" fn termcap_batch_files(
+    db: &[u8],
+    ends: &[usize],
+    name: &[u8],
+    questions: &[u8],
+    out: &mut [u8],
+    answers: &mut u64,
+) -> u32
+    ensures { λ r. ⌜ (r ≡ resultOf (batchReport (files (now (db .entry)) (now (ends .entry))) (now (name .entry)) (now (questions .entry)) (now (out .entry))))
+        × (now (out .exit) ≡ batchOutcome (files (now (db .entry)) (now (ends .entry))) (now (name .entry)) (now (questions .entry)) (now (out .entry)) .buffer)
+        × (now (answers .exit)
+        ≡ storedValue (batchReport (files (now (db .entry)) (now (ends .entry))) (now (name .entry)) (now (questions .entry)) (now (out .entry))) (now (answers .entry))) ⌝ }
+{
+    give_count(batch(db, ends, name, questions, out), answers)
+}
+
 #[no_mangle]
 pub extern "C" fn termcap_batch(
     db: &[u8],
@@ -133,12 +248,13 @@ pub extern "C" fn termcap_batch(
     out: &mut [u8],
     answers: &mut u64,
 ) -> u32
-    ensures { λ r. ⌜ (r ≡ resultOf (batchReport (now (db .entry)) (now (name .entry)) (now (questions .entry)) (now (out .entry))))
-        × (now (out .exit) ≡ batchOutcome (now (db .entry)) (now (name .entry)) (now (questions .entry)) (now (out .entry)) .buffer)
+    ensures { λ r. ⌜ (r ≡ resultOf (batchReport (alone (now (db .entry))) (now (name .entry)) (now (questions .entry)) (now (out .entry))))
+        × (now (out .exit) ≡ batchOutcome (alone (now (db .entry))) (now (name .entry)) (now (questions .entry)) (now (out .entry)) .buffer)
         × (now (answers .exit)
-        ≡ storedValue (batchReport (now (db .entry)) (now (name .entry)) (now (questions .entry)) (now (out .entry))) (now (answers .entry))) ⌝ }
+        ≡ storedValue (batchReport (alone (now (db .entry))) (now (name .entry)) (now (questions .entry)) (now (out .entry))) (now (answers .entry))) ⌝ }
 {
-    give_count(batch(db, name, questions, out), answers)
+    let ends = [db.len()];
+    termcap_batch_files(db, &ends, name, questions, out, answers)
 }
 
 // "A mended database, and a 16-byte record for each thing removed": `out` gets the one, `records` the others.

@@ -2,7 +2,7 @@
 
 use crate::case::{Case, Operation};
 use crate::random::Random;
-use crate::reference;
+use crate::reference::{self, Files};
 
 const NAMES: [&[u8]; 20] = [
     b"a", b"b", b"c", b"A", b"B", b"ab", b"Ab", b"n0", b"n1", b"x y", b"a=", b"a#b", b".n", b"tc",
@@ -54,7 +54,7 @@ pub fn fill_in(random: &mut Random, case: &mut Case) {
 /// The questions of a batch: mostly whole ones, few where each is slow for the reference.
 fn questions(random: &mut Random, case: &Case) -> Vec<u8> {
     let most = if case.database.len() > 20_000 { 3 } else { 20 };
-    let live = reference::list_bytes(&case.database, &case.name).unwrap_or_default();
+    let live = reference::list_bytes(Files::alone(&case.database), &case.name).unwrap_or_default();
     let count = random.between(0, most);
     let mut asked: Vec<u8> = (0..count).flat_map(|_| question(random, case, &live)).collect();
     if random.chance(6) {
@@ -110,7 +110,7 @@ fn question_id(
 
 /// An id for which the answer is present, if there is one.
 fn live_id(random: &mut Random, case: &Case, kind: u8) -> Option<Vec<u8>> {
-    let records = reference::list_bytes(&case.database, &case.name).ok()?;
+    let records = reference::list_bytes(case.files(), &case.name).ok()?;
     let of_kind: Vec<&[u8]> =
         records.chunks(reference::RECORD_BYTES).filter(|record| record[2] == kind).collect();
     if of_kind.is_empty() {

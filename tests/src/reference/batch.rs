@@ -2,7 +2,7 @@
 //! answers".
 
 use super::{
-    check_database, check_name, flag, number, require, string_bytes, write, Refusal, BAD_ID,
+    check_database, check_name, flag, number, require, string_bytes, write, Files, Refusal, BAD_ID,
 };
 
 pub const PARTIAL_QUESTION: Refusal = 15;
@@ -15,16 +15,17 @@ const PRESENT: u8 = 0;
 const ABSENT: u8 = 1;
 const REFUSED: u8 = 2;
 
-/// "The whole call is refused with 1, 3, 15 and 9, in that order." The number of answers is what
+/// "The whole call is refused with 1, 3, 15 and 9, in that order", and with 16 before all others. The number of answers is what
 /// the call reports (our reading).
 pub fn batch(
-    database: &[u8],
+    database: Files,
     name: &[u8],
     questions: &[u8],
     out: &mut [u8],
 ) -> Result<usize, Refusal> {
+    database.check_ends()?;
     check_name(name)?;
-    check_database(database)?;
+    check_database(database.bytes)?;
     // "A question buffer that isn't a multiple of four."
     require(questions.len() % QUESTION_BYTES == 0, PARTIAL_QUESTION)?;
     let questions = questions.chunks(QUESTION_BYTES);
@@ -35,7 +36,7 @@ pub fn batch(
 
 /// "Each answer must equal the same question put alone, given room; a bad id, kind or fourth byte is
 /// refused 2 in its own answer, before what the walk refuses there."
-fn alone(database: &[u8], name: &[u8], question: &[u8]) -> Result<Option<u64>, Refusal> {
+fn alone(database: Files, name: &[u8], question: &[u8]) -> Result<Option<u64>, Refusal> {
     let (id, kind, fourth) = (&question[..2], question[2], question[3]);
     require(fourth == 0, BAD_ID)?;
     match kind {

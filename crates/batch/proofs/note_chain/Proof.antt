@@ -4,7 +4,10 @@ use mathlib.Core.Path.{_≡_}
 use mathlib.Core.List.{List}
 use native.Mathlib.Omega.{arith}
 use lib.ListN.{length, take}
+use Rattle.spec.specs.Files.{files, contents}
 use Rattle.spec.specs.Chain.{joinedFields}
+use Rattle.spec.specs.declared.Location.{Location}
+use Rattle.chain.proofs.WalkPlaces.{length-mapped}
 use Rattle.chain.proofs.JoinedFields.{fieldsFrom, from-first, from-end}
 use Rattle.batch.specs.Answers.{Notes}
 use Rattle.batch.proofs.Noting.{notes-nothing, lines-on}
@@ -12,24 +15,28 @@ use borrow.Author.Needs.{needs}
 use Rattle.batch.proofs.note_chain.Statement.{statement}
 use Rattle.batch.proofs.note_chain.Tie as tie
 
-abbrev Left : List ℕ → List ℕ → ℕ → List ℕ → List ℕ → List ℕ → List ℕ → ℕ → Type 0
-Left db places n marks₀ values₀ marks values i =
-    (m v : List ℕ) → Notes (fieldsFrom db places n i) marks values m v → Notes (joinedFields db 0 (take n places)) marks₀ values₀ m v
+abbrev Left : List (List ℕ) → List Location → ℕ → List ℕ → List ℕ → List ℕ → List ℕ → ℕ → Type 0
+Left db lines n marks₀ values₀ marks values i =
+    (m v : List ℕ) → Notes (fieldsFrom db lines n i) marks values m v → Notes (joinedFields db 0 (take n lines)) marks₀ values₀ m v
 
 abbrev Inv-loop : tie.InvT-loop
-Inv-loop db marks₀ values₀ places n i₀ marks values i = (length places ≡ 32) × (n ≤ 32) × Left db places n marks₀ values₀ marks values i
+Inv-loop db ends marks₀ values₀ lines n i₀ marks values i =
+    (length lines ≡ 32) × (n ≤ 32) × Left (contents (files db ends)) lines n marks₀ values₀ marks values i
 
 abbrev μ-loop : tie.MeasureT-loop
-μ-loop db marks₀ values₀ places n i₀ marks values i = n - i
+μ-loop db ends marks₀ values₀ lines n i₀ marks values i = n - i
 
 loop-holds : tie.Need-loop-holds Inv-loop μ-loop
-loop-holds c = (search needs, search needs, λ m v rest. rw (from-first _ _ _) rest)
+loop-holds c = (search (needs, length-mapped), search needs, λ m v rest. rw (from-first _ _ _) rest)
 
-mul-note-line : tie.Need-mul-note-line Inv-loop μ-loop
-mul-note-line c = search needs
+mul-p : tie.Need-mul-p Inv-loop μ-loop
+mul-p c = search needs
 
-array-read-note-line : tie.Need-array-read-note-line Inv-loop μ-loop
-array-read-note-line c = omega arith
+array-copy-out-p : tie.Need-array-copy-out-p Inv-loop μ-loop
+array-copy-out-p c = omega arith
+
+file-requires : tie.Need-file-requires Inv-loop μ-loop
+file-requires c κs = search needs
 
 note-line-requires : tie.Need-note-line-requires Inv-loop μ-loop
 note-line-requires c κs = search needs
@@ -42,21 +49,22 @@ loop-less c = omega arith
 
 loop-again : tie.Need-loop-again Inv-loop μ-loop
 loop-again c =
-    let l = c .before .before .before .before .loop in
-    let a = c .before .before .before .before .before .before .before .args in (
+    let l = c .before .before .before .before .before .before .loop in
+    let a = c .before .before .before .before .before .before .before .before .before .before .args in
+    let f = c .before .before .before .file in (
       l .inv .0,
       l .inv .1,
       λ m v rest.
           l .inv .2 m v
-          (lines-on (l .marks) (l .values) _ _ m v (a .db .now) (a .c .places) (a .c .count) (l .i) (omega arith) (omega arith)
-          (c .note-line .ensures (l .i)) rest),
+          (lines-on (l .marks) (l .values) _ _ m v _ (a .c .lines) (a .c .count) (l .i) _ _ (omega arith) (omega arith) (f .ensures)
+          (c .note-line .ensures (l .i) _) rest),
     )
 
 returns : tie.Need-returns Inv-loop μ-loop
 returns c =
     let l = c .before .loop in
-    let a = c .before .before .before .before .args in
-    let none = from-end (a .db .now) (a .c .places) (a .c .count) (l .i) (omega arith) in
+    let a = c .before .before .before .before .before .args in
+    let none = from-end (contents (files (a .db .now) (a .ends .now))) (a .c .lines) (a .c .count) (l .i) (omega arith) in
     l .inv .2 (l .marks) (l .values) (rw none (notes-nothing (l .marks) (l .values)))
 
 pub note-chain-spec : {M : Type 1} → statement M
@@ -66,8 +74,9 @@ note-chain-spec =
     Inv-loop
     μ-loop
     loop-holds
-    mul-note-line
-    array-read-note-line
+    mul-p
+    array-copy-out-p
+    file-requires
     note-line-requires
     add-i
     loop-less

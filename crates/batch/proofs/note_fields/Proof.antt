@@ -14,7 +14,8 @@ use Rattle.batch.proofs.note_fields.Tie as tie
 
 abbrev Left : List ℕ → List ℕ → List ℕ → List ℕ → List ℕ → ℕ → Type 0
 Left s marks₀ values₀ marks values at =
-    (place : ℕ) (m v : List ℕ) → Notes (placed place (split (lineAt s at))) marks values m v → Notes (placed place (split (lineAt s 0))) marks₀ values₀ m v
+    (place file : ℕ) (m v : List ℕ) → Notes (placed place file (split (lineAt s at))) marks values m v
+    → Notes (placed place file (split (lineAt s 0))) marks₀ values₀ m v
 
 abbrev Inv-loop : tie.InvT-loop
 Inv-loop s marks₀ values₀ at₀ marks values at = (at ≤ length s) × Left s marks₀ values₀ marks values at
@@ -23,7 +24,7 @@ abbrev μ-loop : tie.MeasureT-loop
 μ-loop s marks₀ values₀ at₀ marks values at = length s - at
 
 loop-holds : tie.Need-loop-holds Inv-loop μ-loop
-loop-holds c = (omega arith, λ place m v rest. rest)
+loop-holds c = (omega arith, λ place file m v rest. rest)
 
 next-field-requires : tie.Need-next-field-requires Inv-loop μ-loop
 next-field-requires c κs = tt
@@ -36,10 +37,10 @@ enum-told c = search needs
 
 returns : tie.Need-returns Inv-loop μ-loop
 unfolding placed
-returns c place =
+returns c place file =
     let q = rw (c .enum-told .given .1) at (c .before .before .next-field .ensures) in
     let l = c .before .before .before .loop in
-    l .inv .1 place (l .marks) (l .values) (rw q (notes-nothing (l .marks) (l .values)))
+    l .inv .1 place file (l .marks) (l .values) (rw q (notes-nothing (l .marks) (l .values)))
 
 note-field-requires : tie.Need-note-field-requires Inv-loop μ-loop
 note-field-requires c κs = search needs
@@ -57,8 +58,9 @@ loop-again c =
     let l = at .before .before .before .loop in
     let s = at .before .before .before .before .before .args .s .now in (
       q .4,
-      λ place m v rest.
-          l .inv .1 place m v (fields-on (l .marks) (l .values) _ _ m v s (l .at) _ place (q .0) (c .note-field .ensures s (l .at) place (q .1)) rest),
+      λ place file m v rest.
+          l .inv .1 place file m v
+          (fields-on (l .marks) (l .values) _ _ m v s (l .at) _ place file (q .0) (c .note-field .ensures s (l .at) place file (q .1)) rest),
     )
 
 pub note-fields-spec : {M : Type 1} → statement M

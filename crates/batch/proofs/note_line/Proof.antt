@@ -19,7 +19,7 @@ enum-told c = search needs
 
 returns : tie.Need-returns
 unfolding placed
-returns c place =
+returns c place file =
     let a = c .before .before .before .before .args in
     let p = rw (c .enum-told .given .1) at (c .before .before .after-names .ensures) in
     rw (no-fields _ p) (notes-nothing (a .marks .now) (a .values .now))
@@ -41,10 +41,10 @@ note-fields-requires : tie.Need-note-fields-requires
 note-fields-requires c κs = search needs
 
 returns-2 : tie.Need-returns-2
-returns-2 c place =
+returns-2 c place file =
     let at = c .before .before .before .before .before in
     let p = rw (at .from .given .1) at (at .before .before .after-names .ensures) in
-    rw (← part-fields _ _ _ _ p) (c .note-fields .ensures place)
+    rw (← part-fields _ _ _ _ p) (c .note-fields .ensures place file)
 
 pub note-line-spec : {M : Type 1} → statement M
 note-line-spec =

@@ -1,5 +1,4 @@
 -- `chain::find_linked` meets its contract: the copy's front is the name. Assumes nothing.
-use mathlib.Core.Path.{_∙_}
 use Rattle.spec.proofs.Stores.{stored-taken}
 use borrow.Author.Needs.{needs}
 use Rattle.chain.proofs.find_linked.Statement.{statement}
@@ -14,18 +13,18 @@ copy-field-requires c κs = search needs
 array-share-prefix-name : tie.Need-array-share-prefix-name
 array-share-prefix-name c = search needs
 
-slice-aggregate-find-line : tie.Need-slice-aggregate-find-line
-slice-aggregate-find-line c =
+slice-aggregate-find-from : tie.Need-slice-aggregate-find-from
+slice-aggregate-find-from c =
     let e = c .before .before .copy-field .ensures in
-    rw (e .1, stored-taken _ _ (c .before .before .before .before .before .pre) _ (e .0)) (e .0)
+    rw (e .1, stored-taken _ _ (c .before .before .before .before .before .before .before .pre .1) _ (e .0)) (e .0)
 
-find-line-requires : tie.Need-find-line-requires
-find-line-requires c κs = search needs
+find-from-requires : tie.Need-find-from-requires
+find-from-requires c κs = search needs
 
 returns : tie.Need-returns
 returns c =
     let e = c .before .before .before .copy-field .ensures in
-    c .find-line .ensures ∙ rw (e .1, stored-taken _ _ (c .before .before .before .before .before .before .pre) _ (e .0))
+    rw (c .find-from .ensures, e .1, stored-taken _ _ (c .before .before .before .before .before .before .before .before .pre .1) _ (e .0))
 
 pub find-linked-spec : {M : Type 1} → statement M
 find-linked-spec =
@@ -34,6 +33,6 @@ find-linked-spec =
     slice-aggregate-copy-field
     copy-field-requires
     array-share-prefix-name
-    slice-aggregate-find-line
-    find-line-requires
+    slice-aggregate-find-from
+    find-from-requires
     returns)

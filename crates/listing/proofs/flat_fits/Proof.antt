@@ -5,7 +5,7 @@ use Rattle.listing.proofs.flat_fits.Statement.{statement}
 use Rattle.listing.proofs.flat_fits.Tie as tie
 
 returns : tie.Need-returns
-returns c = room-for-all _ _ _ (c .before .before .pre .3 .flat-bytes) (c .if1 .taken)
+returns c = room-for-all _ _ _ (c .before .before .before .pre .3 .flat-bytes) (c .if1 .taken)
 
 slice-aggregate-put-flat : tie.Need-slice-aggregate-put-flat
 slice-aggregate-put-flat c = search needs

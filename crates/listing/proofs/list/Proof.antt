@@ -26,7 +26,7 @@ returns : tie.Need-returns
 unfolding listOutcome listFor
 returns c =
     let w = rw (c .before .ended .given .1) at (c .before .before .before .resolve .ensures) in
-    let e = list-none _ (c .before .before .before .before .before .before .before .args .out .now) _ (w .0) in
+    let e = list-none _ (c .before .before .before .before .before .before .before .before .args .out .now) _ (w .0) in
     (e .0, e .1, ap writtenReport (e .0))
 
 same-length : tie.Need-same-length

@@ -1,11 +1,12 @@
 -- `listing::put_flat` meets its contract. Assumes nothing.
-use Prim.Native.Nat.{_+_, _≤_}
+use Prim.Native.Nat.{_+_, _≤_, _<_}
 use mathlib.Core.Path.{_≡_, ap}
 use native.Mathlib.Omega.{arith}
-use lib.ListN.{length, getD}
+use lib.ListN.{length}
 use Rattle.spec.specs.Listing.{mostFlatBytes}
-use Rattle.field_bounds.specs.Answers.{fieldAt}
-use Rattle.listing.specs.Answers.{firstNames, flatOf}
+use Rattle.spec.specs.Files.{files, contents}
+use Rattle.chain.proofs.WalkPlaces.{length-mapped}
+use Rattle.listing.specs.Answers.{flatOf}
 use Rattle.listing.proofs.Delivering.{names-short, flat-length, flat-stored, first-names}
 use borrow.Author.Needs.{needs}
 use Rattle.listing.proofs.put_flat.Statement.{statement}
@@ -16,25 +17,31 @@ abbrev named : tie.After-slice-known5 → tie.After-copy-field
 named c = c .before .before .before .before .before .before .before .before .before .before .before .before .before .before
 
 abbrev start : tie.After-copy-field → tie.Start
-start c = c .before .before .before .before .before
+start c = c .before .before .before .before .before .before .before .before
 
--- the names of the chain's first line
-first : (c : tie.After-copy-field)
-    → firstNames (start c .args .db .now) (start c .args .c) ≡ fieldAt (start c .args .db .now) (getD (start c .args .c .places) 0 0)
-first c = let a = start c .args in first-names (a .db .now) (a .c .places) (a .c .count) (start c .pre .1)
+array : (c : tie.After-copy-field) → length (start c .args .c .lines) ≡ 32
+array c = search (needs, length-mapped)
 
 names-fit : (c : tie.After-copy-field) → c .copy-field .result ≤ mostFlatBytes
-names-fit c = omega (arith, names-short _ _ (start c .pre .3), ap length (first c), c .copy-field .ensures .0)
+names-fit c =
+    let a = start c .args in
+    let first = first-names _ (a .c .lines) (a .c .count) _ _ (start c .pre .1) (omega (arith, array c)) (c .before .before .file .ensures) in
+    omega (arith, names-short _ _ (start c .pre .3), ap length first, c .copy-field .ensures .0)
 
 long : (c : tie.After-slice-known5)
-    → c .before .before .before .before .before .before .write-winning .result + 1 ≡ length
-    (flatOf (start (named c) .args .db .now) (start (named c) .args .c))
+    → c .before .before .before .before .before .before .write-winning .result + 1
+    ≡ length (flatOf (contents (files (start (named c) .args .db .now) (start (named c) .args .ends .now))) (start (named c) .args .c))
 long c =
-    rw (first (named c)) (flat-length _ _ _ _ _ _ (named c .copy-field .ensures .0)
-    (c .before .before .before .before .before .before .write-winning .ensures))
+    let n = named c in
+    let a = start n .args in
+    let first = first-names _ (a .c .lines) (a .c .count) _ _ (start n .pre .1) (omega (arith, array n)) (n .before .before .file .ensures) in
+    rw first (flat-length _ _ _ _ _ _ (n .copy-field .ensures .0) (c .before .before .before .before .before .before .write-winning .ensures))
 
-array-read-copy-field : tie.Need-array-read-copy-field
-array-read-copy-field c = search needs
+array-copy-out-p : tie.Need-array-copy-out-p
+array-copy-out-p c = search needs
+
+file-requires : tie.Need-file-requires
+file-requires c κs = search needs
 
 copy-field-requires : tie.Need-copy-field-requires
 copy-field-requires c κs = search needs
@@ -61,17 +68,20 @@ same-length c = search needs
 
 returns : tie.Need-returns
 returns c =
-    let names = named c .copy-field .ensures in
-    let out = start (named c) .args .out .now in
+    let n = named c in
+    let a = start n .args in
+    let first = first-names _ (a .c .lines) (a .c .count) _ _ (start n .pre .1) (omega (arith, array n)) (n .before .before .file .ensures) in
+    let names = n .copy-field .ensures in
     let w = c .before .before .before .before .before .before .write-winning .ensures in
     let colon = c .before .before .before .before .before .before .before .before .before .before .put-byte .ensures in
-    (long c, rw (first (named c)) (flat-stored _ _ _ _ _ _ (names .0) w out _ _ (names .1) colon (c .before .before .put-byte2 .ensures)))
+    (long c, rw first (flat-stored _ _ _ _ _ _ (names .0) w (a .out .now) _ _ (names .1) colon (c .before .before .put-byte2 .ensures)))
 
 pub put-flat-spec : {M : Type 1} → statement M
 put-flat-spec =
     tie.close
     (tie.spec
-    array-read-copy-field
+    array-copy-out-p
+    file-requires
     copy-field-requires
     put-byte-requires
     add-write-winning

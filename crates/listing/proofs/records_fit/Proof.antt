@@ -5,7 +5,7 @@ use Rattle.listing.proofs.records_fit.Statement.{statement}
 use Rattle.listing.proofs.records_fit.Tie as tie
 
 returns : tie.Need-returns
-returns c = room-for-all _ _ _ (c .before .before .pre .2 .record-bytes) (c .if1 .taken)
+returns c = room-for-all _ _ _ (c .before .before .before .pre .2 .record-bytes) (c .if1 .taken)
 
 slice-aggregate-write-winning : tie.Need-slice-aggregate-write-winning
 slice-aggregate-write-winning c = search needs

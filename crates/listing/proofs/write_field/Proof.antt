@@ -27,7 +27,7 @@ returns : tie.Need-returns
 returns c =
     let a = c .before .before .before .before .before .before .args in
     let t = c .before .before .take-field in
-    take-lost (a .place) (fieldAt (a .s .now) (a .at)) (a .seen .now) _ (a .out .now) (a .to) (a .form) (t .result) (c .enum-told .given .1)
+    take-lost (a .from) (fieldAt (a .s .now) (a .at)) (a .seen .now) _ (a .out .now) (a .to) (a .form) (t .result) (c .enum-told .given .1)
     (t .ensures (a .s .now) (a .at) (c .before .before .before .before .before .before .pre .1))
 
 enum-told-2 : tie.Need-enum-told-2
@@ -66,7 +66,7 @@ returns-2 c =
     let a = won .before .before .before .before .before .before .args in
     let t = won .before .before .take-field in
     let took = t .ensures (a .s .now) (a .at) (won .before .before .before .before .before .before .pre .1) in
-    take-record (a .place) (fieldAt (a .s .now) (a .at)) (a .seen .now) _ (a .out .now) (a .to) (a .form) (t .result) _ _ _ _ _
+    take-record (a .from) (fieldAt (a .s .now) (a .at)) (a .seen .now) _ (a .out .now) (a .to) (a .form) (t .result) _ _ _ _ _
     (c .before .before .before .before .enum-told2 .given .1) (won .a .given .1) took (c .before .before .put-record .ensures)
 
 same-length-2 : tie.Need-same-length-2
@@ -80,7 +80,7 @@ returns-3 c =
     let a = won .before .before .before .before .before .before .args in
     let t = won .before .before .take-field in
     let took = t .ensures (a .s .now) (a .at) (won .before .before .before .before .before .before .pre .1) in
-    take-text (a .place) (fieldAt (a .s .now) (a .at)) (a .seen .now) _ (a .out .now) (a .to) (a .form) (t .result) _ _ _ _ _ _ _
+    take-text (a .from) (fieldAt (a .s .now) (a .at)) (a .seen .now) _ (a .out .now) (a .to) (a .form) (t .result) _ _ _ _ _ _ _
     texts (won .a .given .1) took (copied .0) (copied .1) (c .before .before .put-byte .ensures)
 
 pub write-field-spec : {M : Type 1} → statement M

@@ -11,34 +11,35 @@ use Rattle.spec.specs.Chain.{Field, placed}
 use Rattle.field_bounds.specs.Answers.{fieldAt}
 use Rattle.field_bounds.proofs.LineBounds.{size-bound}
 use Rattle.listing.specs.Answers.{SomeMarks, oneField, Passes, mostForLine}
+use Rattle.listing.specs.declared.Origin.{Origin}
 use Rattle.listing.specs.declared.Form.{Form}
 use Rattle.listing.proofs.Passing.{pass-none, pass-then, pass-bound, line-done, line-more, line-size-bound}
 use Rattle.listing.proofs.write_fields.Statement.{statement}
 use Rattle.listing.proofs.write_fields.Tie as tie
 
 -- the fields of a part
-abbrev fields : ℕ → List ℕ → ℕ → List Field
-fields place s at = placed place (split (lineAt s at))
+abbrev fields : Origin → List ℕ → ℕ → List Field
+fields from s at = placed (from .place) (from .file) (split (lineAt s at))
 
-record On (s : List ℕ) (place : ℕ) (form : Form) (seen₀ out₀ : List ℕ) (to : ℕ) (seen out : List ℕ) (end at : ℕ) : Type 0 where
+record On (s : List ℕ) (from : Origin) (form : Form) (seen₀ out₀ : List ℕ) (to : ℕ) (seen out : List ℕ) (end at : ℕ) : Type 0 where
   done : List Field
-  all : fields place s 0 ≡ done ++ fields place s at
+  all : fields from s 0 ≡ done ++ fields from s at
   passed : Passes form done seen₀ out₀ to seen out end
   buffer : length out ≡ length out₀
   within : at ≤ length s
 
 -- how far it got
-module _ (s : List ℕ) (place : ℕ) (form : Form) (seen₀ out₀ : List ℕ) (to : ℕ) (small : length s ≤ 1048576) (marks : SomeMarks seen₀) where
-  so-far : (seen out : List ℕ) (end at : ℕ) → On s place form seen₀ out₀ to seen out end at → end ≤ to + mostForLine
+module _ (s : List ℕ) (from : Origin) (form : Form) (seen₀ out₀ : List ℕ) (to : ℕ) (small : length s ≤ 1048576) (marks : SomeMarks seen₀) where
+  so-far : (seen out : List ℕ) (end at : ℕ) → On s from form seen₀ out₀ to seen out end at → end ≤ to + mostForLine
   so-far seen out end at i =
-      pass-bound form (fields place s 0) (i .done) (fields place s at) seen₀ out₀ to seen out end (marks .0) (marks .1) (i .passed) (i .all)
-      (line-size-bound place s 0 (omega (arith, size-bound s 0)))
+      pass-bound form (fields from s 0) (i .done) (fields from s at) seen₀ out₀ to seen out end (marks .0) (marks .1) (i .passed) (i .all)
+      (line-size-bound from s 0 (omega (arith, size-bound s 0)))
 
 abbrev Inv-loop : tie.InvT-loop
-Inv-loop s place form seen₀ out₀ to end₀ at₀ seen out end at = On s place form seen₀ out₀ to seen out end at
+Inv-loop s from form seen₀ out₀ to end₀ at₀ seen out end at = On s from form seen₀ out₀ to seen out end at
 
 abbrev μ-loop : tie.MeasureT-loop
-μ-loop s place form seen₀ out₀ to end₀ at₀ seen out end at = length s - at
+μ-loop s from form seen₀ out₀ to end₀ at₀ seen out end at = length s - at
 
 loop-holds : tie.Need-loop-holds Inv-loop μ-loop
 loop-holds c =
@@ -63,8 +64,8 @@ returns c =
     let pre = c .before .before .before .before .before .before .pre in
     let i = c .before .before .before .loop .inv in
     let q = rw (c .enum-told .given .1) at (c .before .before .next-field .ensures) in
-    let e = line-done (a .place) (a .s .now) _ _ _ (i .all) q in
-    (rw e (i .passed), so-far (a .s .now) (a .place) (a .form) (a .seen .now) (a .out .now) (a .to) (pre .0) (pre .1) _ _ _ _ i)
+    let e = line-done (a .from) (a .s .now) _ _ _ (i .all) q in
+    (rw e (i .passed), so-far (a .s .now) (a .from) (a .form) (a .seen .now) (a .out .now) (a .to) (pre .0) (pre .1) _ _ _ _ i)
 
 write-field-requires : tie.Need-write-field-requires Inv-loop μ-loop
 write-field-requires c κs =
@@ -72,7 +73,7 @@ write-field-requires c κs =
     let pre = c .before .before .before .before .before .before .before .before .before .pre in
     let q = rw (c .before .before .before .read .given .1) at (c .before .before .before .before .before .next-field .ensures) in
     let i = c .before .before .before .before .before .before .loop .inv in
-    let b = so-far (a .s .now) (a .place) (a .form) (a .seen .now) (a .out .now) (a .to) (pre .0) (pre .1) _ _ _ _ i in
+    let b = so-far (a .s .now) (a .from) (a .form) (a .seen .now) (a .out .now) (a .to) (pre .0) (pre .1) _ _ _ _ i in
     (pre .0, q .1, omega (arith, pre .2))
 
 loop-less : tie.Need-loop-less Inv-loop μ-loop
@@ -86,12 +87,12 @@ loop-again c =
     let a = c .before .before .before .before .before .before .before .before .before .before .before .before .args in
     let l = c .before .before .before .before .before .before .before .before .before .loop in
     let i = l .inv in
-    let here = oneField (a .place) (fieldAt (a .s .now) (l .at)) in
+    let here = oneField (a .from) (fieldAt (a .s .now) (l .at)) in
     let at = c .before .before .before .before .before .before in
     let q = rw (at .read .given .1) at (at .before .before .next-field .ensures) in
     record {
       done = i .done ++ here;
-      all = line-more (a .place) (a .s .now) (l .at) _ (fields (a .place) (a .s .now) 0) (i .done) _ (i .all) (q .0);
+      all = line-more (a .from) (a .s .now) (l .at) _ (fields (a .from) (a .s .now) 0) (i .done) _ (i .all) (q .0);
       passed = pass-then (a .form) (i .done) here (a .seen .now) (a .out .now) (a .to) _ _ _ _ _ _ (i .passed) (c .before .before .write-field .ensures);
       buffer = c .before .out .given ∙ i .buffer;
       within = q .4;

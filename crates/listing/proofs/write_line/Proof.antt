@@ -12,8 +12,8 @@ use Rattle.listing.proofs.write_line.Tie as tie
 after-names-requires : tie.Need-after-names-requires
 after-names-requires c κs = search needs
 
-enum-known-from : tie.Need-enum-known-from
-enum-known-from c = search needs
+enum-known-fields : tie.Need-enum-known-fields
+enum-known-fields c = search needs
 
 enum-told : tie.Need-enum-told
 enum-told c = search needs
@@ -27,12 +27,12 @@ returns c =
 
 sub-write-fields : tie.Need-sub-write-fields
 sub-write-fields c =
-    let p = rw (c .before .from .given .1) at (c .before .before .before .after-names .ensures) in
+    let p = rw (c .before .fields .given .1) at (c .before .before .before .after-names .ensures) in
     omega arith
 
 part-write-fields-start : tie.Need-part-write-fields-start
 part-write-fields-start c =
-    let p = rw (c .before .from .given .1) at (c .before .before .before .after-names .ensures) in
+    let p = rw (c .before .fields .given .1) at (c .before .before .before .after-names .ensures) in
     omega arith
 
 part-write-fields-end : tie.Need-part-write-fields-end
@@ -47,7 +47,7 @@ same-length c = search needs
 returns-2 : tie.Need-returns-2
 returns-2 c =
     let at = c .before .before .before .before .before .before .before in
-    let p = rw (at .from .given .1) at (at .before .before .after-names .ensures) in
+    let p = rw (at .fields .given .1) at (at .before .before .after-names .ensures) in
     rw (← part-fields _ _ _ _ p) (c .before .before .write-fields .ensures)
 
 pub write-line-spec : {M : Type 1} → statement M
@@ -55,7 +55,7 @@ write-line-spec =
     tie.close
     (tie.spec
     after-names-requires
-    enum-known-from
+    enum-known-fields
     enum-told
     returns
     sub-write-fields

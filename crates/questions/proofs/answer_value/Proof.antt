@@ -1,6 +1,7 @@
 -- `questions::answer_value` meets its contract, by what the question comes to. Assumes nothing.
 use mathlib.Core.Path.{sym}
 use native.Mathlib.Omega.{arith}
+use Rattle.spec.specs.Files.{files}
 use Rattle.questions.proofs.ReadFields.{read-value, read-small}
 use Rattle.questions.proofs.Terminals.{answer-refused, answer-absent, answer-present}
 use borrow.Author.Needs.{needs}
@@ -23,7 +24,8 @@ value-of-requires : tie.Need-value-of-requires
 value-of-requires c κs =
     let f = c .before in
     let q = rw (f .read .given .1) at (f .before .before .ask .ensures) in
-    let n = read-small (f .before .before .before .before .before .before .args .db .now) (f .read .given .0 .0) _ (f .read .given .0 .1 .0) (q .3 .2) in
+    let a = f .before .before .before .before .before .before .before .args in
+    let n = read-small (files (a .db .now) (a .ends .now)) (f .read .given .0 .0) _ (f .read .given .0 .1 .0) (q .3 .2) in
     omega arith
 
 returns : tie.Need-returns

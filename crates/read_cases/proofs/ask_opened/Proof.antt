@@ -1,8 +1,8 @@
 -- `read_cases::ask_opened` is safe: a walk of its MIR, by hand. The `Reader` that `open` returns is held in a local, copied for each
 -- question, and passed on. All that the proof knows of its callees is that each meets its contract; it uses no promise of theirs.
--- In a local MIR erases the lifetime of the struct's type, so the value is shown to have the type at `erased`. `open` takes the token of the
--- database's lifetime alone, Flag and Number those of the three slices, Show those of the database, the name and the `&mut`, which is given
--- up for good.
+-- In a local MIR erases the lifetimes of the struct's type, so the value is shown to have the type at `erased`. `open` takes the tokens of the
+-- database's and the ends' lifetimes alone, Flag and Number also those of the name and the id, Show those of the name and the `&mut`, which is
+-- given up for good.
 -- Assumes nothing.
 use mathlib.Core.Path.{refl, sym, ap, subst}
 use Prim.Native.Nat.{ℕ}
@@ -28,7 +28,7 @@ use types.Run.{pass0, free1, free0}
 use sound.WpLaws.{FmC, fmOf, WpFn-mono}
 use denote.RattleType.{RattleType, owns}
 use denote.Laws.{Is, shows}
-use denote.Builtin.{u8, unit}
+use denote.Builtin.{u8, usize, unit}
 use denote.Ref.{RefT, NamedLft, MutRef, ptr-vals, mut-tells}
 use denote.Signature.{plain}
 use denote.Slice.{sliceVal, ShrSlice, slice-vals, shr-slice-tells, shr-slice-lawful, shr-slice-copy}
@@ -78,8 +78,11 @@ abbrev stayed : Stays (asks.ended .signature .params) (asks.ended .kept)
 stayed = (
   stay-none-slice (0 ∷ []) tt (plain (λ _. u8)) yes,
   (
-    stay-none-slice (1 ∷ []) tt (plain (λ _. u8)) yes,
-    (stay-none-slice (2 ∷ []) tt (plain (λ _. u8)) yes, (gave-ref (3 ∷ []) tt (plain (λ _. u8)), tt)),
+    stay-none-slice (1 ∷ []) tt (plain (λ _. usize)) yes,
+    (
+      stay-none-slice (2 ∷ []) tt (plain (λ _. u8)) yes,
+      (stay-none-slice (3 ∷ []) tt (plain (λ _. u8)) yes, (gave-ref (4 ∷ []) tt (plain (λ _. u8)), tt)),
+    ),
   ),
 )
 
@@ -109,20 +112,26 @@ module _ {M : Type 1} (𝓤 : URA M) (H : Heap 𝓤) (A : Atoms 𝓤) (mem : Mem
     show-met : Triple 𝓤 (C #reader·show) Show
 
 module _ {M : Type 1} (𝓤 : URA M) (H : Heap 𝓤) (A : Atoms 𝓤) (W : Given 𝓤 H A) (mem : Memory → SProp 𝓤) (run : Routine → Fun 𝓤)
-    (κ₀ κ₁ κ₂ κ₃ : Lft) (q₀ q₁ q₂ q₃ : Share) (d s t : RefT (List ℕ)) (x : RefT ℕ) where
-  -- the lifetimes of the function, of Flag and Number, and of Show
-  abbrev κs : Lfts 4
-  κs = (κ₀, (κ₁, (κ₂, (κ₃, tt))))
+    (κ₀ κₑ κ₁ κ₂ κ₃ : Lft) (q₀ qₑ q₁ q₂ q₃ : Share) (d ends s t : RefT (List ℕ)) (x : RefT ℕ) where
+  -- the lifetimes of the function, of `open`, of Flag and Number, and of Show
+  abbrev κs : Lfts 5
+  κs = (κ₀, (κₑ, (κ₁, (κ₂, (κ₃, tt)))))
 
-  abbrev κ-asked : Lfts 3
-  κ-asked = (κ₀, (κ₁, (κ₂, tt)))
+  abbrev κ-opened : Lfts 2
+  κ-opened = (κ₀, (κₑ, tt))
 
-  abbrev κ-shown : Lfts 3
-  κ-shown = (κ₀, (κ₁, (κ₃, tt)))
+  abbrev κ-asked : Lfts 4
+  κ-asked = (κ₀, (κₑ, (κ₁, (κ₂, tt))))
 
-  -- the machine values of db, name, id and refusal
+  abbrev κ-shown : Lfts 4
+  κ-shown = (κ₀, (κₑ, (κ₁, (κ₃, tt))))
+
+  -- the machine values of db, ends, name, id and refusal
   abbrev v : Val
   v = sliceVal (d .ptr) (length (d .now))
+
+  abbrev vₑ : Val
+  vₑ = sliceVal (ends .ptr) (length (ends .now))
 
   abbrev w : Val
   w = sliceVal (s .ptr) (length (s .now))
@@ -137,25 +146,34 @@ module _ {M : Type 1} (𝓤 : URA M) (H : Heap 𝓤) (A : Atoms 𝓤) (W : Given
   abbrev α : NamedLft
   α = record { mir = named 0; lft = κ₀ }
 
+  abbrev β : NamedLft
+  β = record { mir = named 1; lft = κₑ }
+
   abbrev αᵉ : NamedLft
   αᵉ = record { mir = erased; lft = κ₀ }
+
+  abbrev βᵉ : NamedLft
+  βᵉ = record { mir = erased; lft = κₑ }
 
   -- the types of the parameters
   abbrev Db : RattleType
   Db = ShrSlice (named 0) κ₀ u8
 
+  abbrev Ends : RattleType
+  Ends = ShrSlice (named 1) κₑ usize
+
   abbrev Name : RattleType
-  Name = ShrSlice (named 1) κ₁ u8
+  Name = ShrSlice (named 2) κ₁ u8
 
   abbrev Id : RattleType
-  Id = ShrSlice (named 2) κ₂ u8
+  Id = ShrSlice (named 3) κ₂ u8
 
   abbrev Refusal : RattleType
-  Refusal = MutRef (named 3) κ₃ u8
+  Refusal = MutRef (named 4) κ₃ u8
 
   -- the parameters of the function, of Flag and Number, and of Show
   abbrev args : Args asks.signature κs
-  args = (d, (s, (t, (x, tt))))
+  args = (d, (ends, (s, (t, (x, tt)))))
 
   abbrev asked-of : Reader → Args flag.signature κ-asked
   asked-of c = (c, (s, (t, tt)))
@@ -164,13 +182,13 @@ module _ {M : Type 1} (𝓤 : URA M) (H : Heap 𝓤) (A : Atoms 𝓤) (W : Given
   shown-of c = (c, (s, (x, tt)))
 
   abbrev vals : Vals asks.signature κs
-  vals = (v ∷ [], (w ∷ [], (z ∷ [], (m ∷ [], tt))))
+  vals = (v ∷ [], (vₑ ∷ [], (w ∷ [], (z ∷ [], (m ∷ [], tt)))))
 
   abbrev entry : SProp 𝓤
-  entry = onEntry 𝓤 H A asks.signature κs (q₀, (q₁, (q₂, (q₃, tt)))) args vals
+  entry = onEntry 𝓤 H A asks.signature κs (q₀, (qₑ, (q₁, (q₂, (q₃, tt))))) args vals
 
   abbrev bound : walkOf 𝓤 H A asks.ended stayed (asks.clauses 𝓤 H A mem run) .Ghost
-  bound = ((κs, (q₀, (q₁, (q₂, (q₃, tt)))), tt, args, vals), tt)
+  bound = ((κs, (q₀, (qₑ, (q₁, (q₂, (q₃, tt))))), tt, args, vals), tt)
 
   abbrev Post : Val → SProp 𝓤
   Post = walkOf 𝓤 H A asks.ended stayed (asks.clauses 𝓤 H A mem run) .post bound
@@ -178,6 +196,9 @@ module _ {M : Type 1} (𝓤 : URA M) (H : Heap 𝓤) (A : Atoms 𝓤) (W : Given
   -- the tokens, and what the parameters and the struct own
   abbrev T₀ : Item 𝓤
   T₀ = ‵ (flft κ₀ q₀)
+
+  abbrev Tₑ : Item 𝓤
+  Tₑ = ‵ (flft κₑ qₑ)
 
   abbrev T₁ : Item 𝓤
   T₁ = ‵ (flft κ₁ q₁)
@@ -188,14 +209,24 @@ module _ {M : Type 1} (𝓤 : URA M) (H : Heap 𝓤) (A : Atoms 𝓤) (W : Given
   abbrev T₃ : Item 𝓤
   T₃ = ‵ (flft κ₃ q₃)
 
+  abbrev opened : Item 𝓤
+  opened = T₀ ⊛ Tₑ ⊛ ‵ ftrue
+
   abbrev asked : Item 𝓤
-  asked = T₀ ⊛ T₁ ⊛ T₂ ⊛ ‵ ftrue
+  asked = T₀ ⊛ Tₑ ⊛ T₁ ⊛ T₂ ⊛ ‵ ftrue
 
   abbrev shown : Item 𝓤
-  shown = T₀ ⊛ T₁ ⊛ T₃ ⊛ ‵ ftrue
+  shown = T₀ ⊛ Tₑ ⊛ T₁ ⊛ T₃ ⊛ ‵ ftrue
 
   abbrev OwnD : Fml
   OwnD = Db .own d (v ∷ [])
+
+  abbrev OwnE : Fml
+  OwnE = Ends .own ends (vₑ ∷ [])
+
+  -- what db and ends own
+  abbrev OwnDE : Item 𝓤
+  OwnDE = ‵ OwnD ⊛ ‵ OwnE
 
   abbrev OwnS : Fml
   OwnS = Name .own s (w ∷ [])
@@ -207,46 +238,52 @@ module _ {M : Type 1} (𝓤 : URA M) (H : Heap 𝓤) (A : Atoms 𝓤) (W : Given
   OwnM = Refusal .own x (m ∷ [])
 
   abbrev OwnR : Reader → Val → Fml
-  OwnR c u = T.the-row α .own c (u ∷ [])
+  OwnR c u = T.the-row α β .own c (u ∷ [])
 
   -- what is kept beside the call of `open`, of a question, and of `show`
   abbrev Kept-open : Item 𝓤
-  Kept-open = (T₁ ⊛ T₂ ⊛ T₃ ⊛ ‵ ftrue) ⊛ (‵ OwnD ⊛ (‵ OwnS ⊛ (‵ OwnT ⊛ ‵ OwnM)))
+  Kept-open = (T₁ ⊛ T₂ ⊛ T₃ ⊛ ‵ ftrue) ⊛ (OwnDE ⊛ (‵ OwnS ⊛ (‵ OwnT ⊛ ‵ OwnM)))
 
   abbrev Kept : Reader → Val → Item 𝓤
-  Kept c u = ‵ (OwnR c u) ⊛ (T₃ ⊛ (‵ OwnD ⊛ (‵ OwnS ⊛ (‵ OwnT ⊛ ‵ OwnM))))
+  Kept c u = ‵ (OwnR c u) ⊛ (T₃ ⊛ (OwnDE ⊛ (‵ OwnS ⊛ (‵ OwnT ⊛ ‵ OwnM))))
 
   abbrev Kept-shown : Item 𝓤
-  Kept-shown = T₂ ⊛ (‵ OwnD ⊛ (‵ OwnS ⊛ ‵ OwnT))
+  Kept-shown = T₂ ⊛ (OwnDE ⊛ (‵ OwnS ⊛ ‵ OwnT))
 
   twice-S : ent 𝓤 (⋆ 𝓤 H A (‵ OwnS ∷ [])) (⋆ 𝓤 H A (‵ OwnS ∷ ‵ OwnS ∷ []))
-  twice-S = shr-slice-copy 𝓤 H A W (named 1) κ₁ u8 .twice s (w ∷ [])
+  twice-S = shr-slice-copy 𝓤 H A W (named 2) κ₁ u8 .twice s (w ∷ [])
 
   -- the call of `open`
-  abbrev to-open : Open 𝓤 H A mem run .Ghost
-  to-open = (((κ₀, tt), (q₀, tt), tt, (d, tt), (v ∷ [], tt)), tt)
+  abbrev open-vals : Vals open′.signature κ-opened
+  open-vals = (v ∷ [], (vₑ ∷ [], tt))
 
-  pre-open : ent 𝓤 (⋆ 𝓤 H A ((T₀ ⊛ ‵ ftrue) ∷ ‵ (owns (Db ∷ []) (d, tt) (v ∷ [], tt)) ∷ [])) (Open 𝓤 H A mem run .pre to-open)
-  pre-open = qed W ((T₀ ⊛ ‵ ftrue) ∷ ‵ (owns (Db ∷ []) (d, tt) (v ∷ [], tt)) ∷ []) ∵ join ! $ frame ! $ done !
+  abbrev to-open : Open 𝓤 H A mem run .Ghost
+  to-open = ((κ-opened, (q₀, (qₑ, tt)), tt, (d, (ends, tt)), open-vals), tt)
+
+  pre-open : ent 𝓤 (⋆ 𝓤 H A (opened ∷ ‵ (owns (Db ∷ Ends ∷ []) (d, (ends, tt)) open-vals) ∷ [])) (Open 𝓤 H A mem run .pre to-open)
+  pre-open = qed W (opened ∷ ‵ (owns (Db ∷ Ends ∷ []) (d, (ends, tt)) open-vals) ∷ []) ∵ join ! $ frame ! $ done !
 
   goes-open : ent 𝓤 entry (⋆ 𝓤 H A (raw (Open 𝓤 H A mem run .pre to-open) ∷ Kept-open ∷ []))
   goes-open =
-      qed W ((T₀ ⊛ T₁ ⊛ T₂ ⊛ T₃ ⊛ ‵ ftrue) ∷ ‵ (owns (Db ∷ Name ∷ Id ∷ Refusal ∷ []) args vals) ∷ []) ∵
-      split ! $ nothing ! $ move ! (1 ∷ 0 ∷ []) $ join ! $
-      -- [the database's token; the other tokens; what the parameters own]
-      move ! (2 ∷ []) $ fsplit ! $ use1 W (‵ OwnD ⊛ ‵ OwnD) (shr-slice-copy 𝓤 H A W (named 0) κ₀ u8 .twice d (v ∷ [])) $ split ! $ nothing ! $
-      move ! (1 ∷ 0 ∷ []) $ fjoin ! $
-      move ! (3 ∷ 0 ∷ []) $ use2 W (raw (Open 𝓤 H A mem run .pre to-open)) pre-open $ frame ! $
-      -- [what db owns; what name, id and refusal own; the other tokens]
-      move ! (2 ∷ []) $ frame ! $ frame ! $ fsplit ! $ frame ! $ fsplit ! $ frame ! $ fsplit ! $ keep ! (0 ∷ []) $ done !
+      qed W ((T₀ ⊛ Tₑ ⊛ T₁ ⊛ T₂ ⊛ T₃ ⊛ ‵ ftrue) ∷ ‵ (owns (Db ∷ Ends ∷ Name ∷ Id ∷ Refusal ∷ []) args vals) ∷ []) ∵
+      split ! $ move ! (1 ∷ []) $ split ! $ nothing ! $ move ! (1 ∷ 0 ∷ []) $ join ! $ move ! (2 ∷ 0 ∷ []) $ join ! $
+      -- [the tokens of `open`; the other tokens; what the parameters own]
+      move ! (2 ∷ []) $ fsplit ! $ use1 W (‵ OwnD ⊛ ‵ OwnD) (shr-slice-copy 𝓤 H A W (named 0) κ₀ u8 .twice d (v ∷ [])) $ split ! $
+      move ! (2 ∷ []) $ fsplit ! $ use1 W (‵ OwnE ⊛ ‵ OwnE) (shr-slice-copy 𝓤 H A W (named 1) κₑ usize .twice ends (vₑ ∷ [])) $ split ! $ nothing ! $
+      -- [ftrue; ends; ends; name, id and refusal; db; db; the tokens of `open`; the other tokens]
+      move ! (1 ∷ 0 ∷ []) $ fjoin ! $ move ! (3 ∷ 0 ∷ []) $ fjoin ! $
+      move ! (4 ∷ 0 ∷ []) $ use2 W (raw (Open 𝓤 H A mem run .pre to-open)) pre-open $ frame ! $
+      -- [ends; name, id and refusal; db; the other tokens]
+      move ! (2 ∷ 0 ∷ []) $ join ! $ move ! (2 ∷ []) $ frame ! $ frame ! $ fsplit ! $ frame ! $ fsplit ! $ frame ! $ fsplit ! $ keep ! (0 ∷ []) $ done !
 
   -- the tokens of a question, and the rest
-  goes-on : (c : Reader) (u : Val) → ent 𝓤 (⋆ 𝓤 H A ((‵ (OwnR c u) ⊛ (T₀ ⊛ ‵ ftrue)) ∷ Kept-open ∷ [])) (⋆ 𝓤 H A (asked ∷ Kept c u ∷ []))
+  goes-on : (c : Reader) (u : Val) → ent 𝓤 (⋆ 𝓤 H A ((‵ (OwnR c u) ⊛ opened) ∷ Kept-open ∷ [])) (⋆ 𝓤 H A (asked ∷ Kept c u ∷ []))
   goes-on c u =
-      qed W ((‵ (OwnR c u) ⊛ (T₀ ⊛ ‵ ftrue)) ∷ Kept-open ∷ []) ∵
-      split ! $ move ! (1 ∷ []) $ split ! $ move ! (3 ∷ []) $ split ! $ split ! $ move ! (1 ∷ []) $ split ! $ move ! (1 ∷ []) $ split ! $
-      -- [T₃; ftrue; T₂; T₁; what the parameters own; T₀; ftrue; what the struct owns]
-      move ! (2 ∷ 1 ∷ []) $ join ! $ move ! (2 ∷ 0 ∷ []) $ join ! $ move ! (3 ∷ 0 ∷ []) $ join ! $
+      qed W ((‵ (OwnR c u) ⊛ opened) ∷ Kept-open ∷ []) ∵
+      split ! $ move ! (1 ∷ []) $ split ! $ move ! (1 ∷ []) $ split ! $ move ! (4 ∷ []) $ split ! $ split ! $ move ! (1 ∷ []) $ split ! $
+      move ! (1 ∷ []) $ split ! $
+      -- [T₃; ftrue; T₂; T₁; what the parameters own; Tₑ; ftrue; T₀; what the struct owns]
+      move ! (2 ∷ 1 ∷ []) $ join ! $ move ! (2 ∷ 0 ∷ []) $ join ! $ move ! (3 ∷ 0 ∷ []) $ join ! $ move ! (4 ∷ 0 ∷ []) $ join ! $
       -- [the tokens of a question; T₃; what the parameters own; ftrue; what the struct owns]
       frame ! $ move ! (3 ∷ []) $ frame ! $ frame ! $ keep ! (0 ∷ []) $ done !
 
@@ -255,21 +292,21 @@ module _ {M : Type 1} (𝓤 : URA M) (H : Heap 𝓤) (A : Atoms 𝓤) (W : Given
   passed u = (u ∷ [], (w ∷ [], (z ∷ [], tt)))
 
   abbrev to-question : Reader → Val → Flag 𝓤 H A mem run .Ghost
-  to-question c u = ((κ-asked, (q₀, (q₁, (q₂, tt))), tt, (asked-of c), passed u), tt)
+  to-question c u = ((κ-asked, (q₀, (qₑ, (q₁, (q₂, tt)))), tt, (asked-of c), passed u), tt)
 
-  pre-question : (c : Reader) (u : Val) → ent 𝓤 (onEntry 𝓤 H A flag.signature κ-asked (q₀, (q₁, (q₂, tt))) (asked-of c) (passed u))
+  pre-question : (c : Reader) (u : Val) → ent 𝓤 (onEntry 𝓤 H A flag.signature κ-asked (q₀, (qₑ, (q₁, (q₂, tt)))) (asked-of c) (passed u))
       (Flag 𝓤 H A mem run .pre (to-question c u))
-  pre-question c u = qed W (asked ∷ ‵ (owns (T.the-row α ∷ Name ∷ Id ∷ []) (asked-of c) (passed u)) ∷ []) ∵ join ! $ frame ! $ done !
+  pre-question c u = qed W (asked ∷ ‵ (owns (T.the-row α β ∷ Name ∷ Id ∷ []) (asked-of c) (passed u)) ∷ []) ∵ join ! $ frame ! $ done !
 
   goes-question : (c : Reader) (u : Val) → ent 𝓤 (⋆ 𝓤 H A (asked ∷ Kept c u ∷ [])) (⋆ 𝓤 H A (raw (Flag 𝓤 H A mem run .pre (to-question c u)) ∷ Kept c u ∷ []))
   goes-question c u =
       qed W (asked ∷ Kept c u ∷ []) ∵
-      move ! (1 ∷ []) $ split ! $ use1 W (‵ (OwnR c u) ⊛ ‵ (OwnR c u)) (LL.copy (T.the-type α) (T′.the-copy α) 𝓤 H A W .twice c (u ∷ [])) $ split ! $
+      move ! (1 ∷ []) $ split ! $ use1 W (‵ (OwnR c u) ⊛ ‵ (OwnR c u)) (LL.copy (T.the-type α β) (T′.the-copy α β) 𝓤 H A W .twice c (u ∷ [])) $ split ! $
       move ! (2 ∷ []) $ split ! $ move ! (1 ∷ []) $ split ! $ move ! (1 ∷ []) $ split ! $ use1 W (‵ OwnS ⊛ ‵ OwnS) twice-S $ split ! $
-      move ! (2 ∷ []) $ split ! $ use1 W (‵ OwnT ⊛ ‵ OwnT) (shr-slice-copy 𝓤 H A W (named 2) κ₂ u8 .twice t (z ∷ [])) $ split ! $
-      -- [id; id; refusal; name; name; db; T₃; the struct; the struct; the tokens]
+      move ! (2 ∷ []) $ split ! $ use1 W (‵ OwnT ⊛ ‵ OwnT) (shr-slice-copy 𝓤 H A W (named 3) κ₂ u8 .twice t (z ∷ [])) $ split ! $
+      -- [id; id; refusal; name; name; db and ends; T₃; the struct; the struct; the tokens]
       nothing ! $ move ! (1 ∷ 0 ∷ []) $ fjoin ! $ move ! (3 ∷ 0 ∷ []) $ fjoin ! $ move ! (6 ∷ 0 ∷ []) $ fjoin ! $
-      -- [what the callee's arguments own; id; refusal; name; db; T₃; the struct; the tokens]
+      -- [what the callee's arguments own; id; refusal; name; db and ends; T₃; the struct; the tokens]
       move ! (7 ∷ 0 ∷ []) $ use2 W (raw (Flag 𝓤 H A mem run .pre (to-question c u))) (pre-question c u) $ frame ! $ move ! (5 ∷ 4 ∷ 3 ∷ 2 ∷ 0 ∷ 1 ∷ []) $
       done !
 
@@ -288,62 +325,64 @@ module _ {M : Type 1} (𝓤 : URA M) (H : Heap 𝓤) (A : Atoms 𝓤) (W : Given
   passed-show u = (u ∷ [], (w ∷ [], (m ∷ [], tt)))
 
   abbrev to-show : Reader → Val → Show 𝓤 H A mem run .Ghost
-  to-show c u = ((κ-shown, (q₀, (q₁, (q₃, tt))), tt, (shown-of c), passed-show u), tt)
+  to-show c u = ((κ-shown, (q₀, (qₑ, (q₁, (q₃, tt)))), tt, (shown-of c), passed-show u), tt)
 
-  pre-show : (c : Reader) (u : Val) → ent 𝓤 (onEntry 𝓤 H A show.signature κ-shown (q₀, (q₁, (q₃, tt))) (shown-of c) (passed-show u))
+  pre-show : (c : Reader) (u : Val) → ent 𝓤 (onEntry 𝓤 H A show.signature κ-shown (q₀, (qₑ, (q₁, (q₃, tt)))) (shown-of c) (passed-show u))
       (Show 𝓤 H A mem run .pre (to-show c u))
-  pre-show c u = qed W (shown ∷ ‵ (owns (T.the-row α ∷ Name ∷ MutRef (named 2) κ₃ u8 ∷ []) (shown-of c) (passed-show u)) ∷ []) ∵ join ! $ frame ! $ done !
+  pre-show c u = qed W (shown ∷ ‵ (owns (T.the-row α β ∷ Name ∷ MutRef (named 3) κ₃ u8 ∷ []) (shown-of c) (passed-show u)) ∷ []) ∵ join ! $ frame ! $ done !
 
   goes-show : (c : Reader) (u : Val) → ent 𝓤 (⋆ 𝓤 H A (asked ∷ Kept c u ∷ [])) (⋆ 𝓤 H A (raw (Show 𝓤 H A mem run .pre (to-show c u)) ∷ Kept-shown ∷ []))
   goes-show c u =
       qed W (asked ∷ Kept c u ∷ []) ∵
-      split ! $ move ! (1 ∷ []) $ split ! $ move ! (1 ∷ []) $ split ! $ move ! (4 ∷ []) $ split ! $ move ! (1 ∷ []) $ split ! $
-      -- [T₃; what the parameters own; the struct; T₂; ftrue; T₁; T₀]
-      move ! (0 ∷ 4 ∷ []) $ join ! $ move ! (4 ∷ 0 ∷ []) $ join ! $ move ! (4 ∷ 0 ∷ []) $ join ! $
+      split ! $ move ! (1 ∷ []) $ split ! $ move ! (1 ∷ []) $ split ! $ move ! (1 ∷ []) $ split ! $ move ! (5 ∷ []) $ split ! $ move ! (1 ∷ []) $ split ! $
+      -- [T₃; what the parameters own; the struct; T₂; ftrue; T₁; Tₑ; T₀]
+      move ! (0 ∷ 4 ∷ []) $ join ! $ move ! (4 ∷ 0 ∷ []) $ join ! $ move ! (4 ∷ 0 ∷ []) $ join ! $ move ! (4 ∷ 0 ∷ []) $ join ! $
       -- [the tokens of Show; what the parameters own; the struct; T₂]
       move ! (1 ∷ []) $ split ! $ move ! (1 ∷ []) $ split ! $ use1 W (‵ OwnS ⊛ ‵ OwnS) twice-S $ split ! $ move ! (2 ∷ []) $ split ! $ nothing ! $
-      -- [ftrue; id; refusal; name; name; db; the tokens of Show; the struct; T₂]
+      -- [ftrue; id; refusal; name; name; db and ends; the tokens of Show; the struct; T₂]
       move ! (2 ∷ 0 ∷ []) $ fjoin ! $ move ! (2 ∷ 0 ∷ []) $ fjoin ! $ move ! (5 ∷ 0 ∷ []) $ fjoin ! $
-      -- [what the callee's arguments own; id; name; db; the tokens of Show; T₂]
+      -- [what the callee's arguments own; id; name; db and ends; the tokens of Show; T₂]
       move ! (4 ∷ 0 ∷ []) $ use2 W (raw (Show 𝓤 H A mem run .pre (to-show c u))) (pre-show c u) $ frame ! $ move ! (3 ∷ 2 ∷ 1 ∷ 0 ∷ []) $ done !
 
   exits : (c : Reader) (r : RefT (List ℕ)) (u : Val) (n : ℕ) → ent 𝓤
       (⋆ 𝓤 H A (‵ (Db .own r (u ∷ [])) ∷ shown ∷ ‵ (lasts show.ended κ-shown (shown-of c) (tt, (tt, (n, tt)))) ∷ Kept-shown ∷ [])) (Post u)
   exits c r u n =
       qed W (‵ (Db .own r (u ∷ [])) ∷ shown ∷ ‵ (lasts show.ended κ-shown (shown-of c) (tt, (tt, (n, tt)))) ∷ Kept-shown ∷ []) ∵
-      suffices ! _ (ends-at 𝓤 H A asks.ended stayed (asks.clauses 𝓤 H A mem run) W bound u r (tt, (tt, (tt, (n, tt)))) (tt, (tt, (tt, (tt, tt))))) $
-      move ! (1 ∷ []) $ split ! $ move ! (1 ∷ []) $ split ! $ move ! (5 ∷ []) $ split ! $
-      -- [T₂; what db, name and id own; T₁; T₃ and ftrue; T₀; the result; refusal's last value]
-      move ! (0 ∷ 3 ∷ []) $ join ! $ move ! (2 ∷ 0 ∷ []) $ join ! $ move ! (2 ∷ 0 ∷ []) $ join ! $
-      -- [the tokens; what db, name and id own; the result; refusal's last value]
-      move ! (3 ∷ []) $ fsplit ! $ drop ! $ fsplit ! $ drop ! $ move ! (2 ∷ []) $ split ! $ move ! (1 ∷ []) $ split ! $
-      -- [name; id; db; refusal's last value; the tokens; the result]
-      move ! (1 ∷ 3 ∷ []) $ fjoin ! $ move ! (1 ∷ 0 ∷ []) $ fjoin ! $ move ! (1 ∷ 0 ∷ []) $ fjoin ! $ move ! (0 ∷ 2 ∷ []) $ join ! $ move ! (1 ∷ 0 ∷ []) $
-      join ! $ frame ! $ done !
+      suffices ! _ (ends-at 𝓤 H A asks.ended stayed (asks.clauses 𝓤 H A mem run) W bound u r (tt, (tt, (tt, (tt, (n, tt))))) (tt, (tt, (tt, (tt, (tt, tt)))))) $
+      move ! (1 ∷ []) $ split ! $ move ! (1 ∷ []) $ split ! $ move ! (1 ∷ []) $ split ! $ move ! (6 ∷ []) $ split ! $
+      -- [T₂; what db, ends, name and id own; T₁; T₃ and ftrue; Tₑ; T₀; the result; refusal's last value]
+      move ! (0 ∷ 3 ∷ []) $ join ! $ move ! (2 ∷ 0 ∷ []) $ join ! $ move ! (2 ∷ 0 ∷ []) $ join ! $ move ! (2 ∷ 0 ∷ []) $ join ! $
+      -- [the tokens; what db, ends, name and id own; the result; refusal's last value]
+      move ! (3 ∷ []) $ fsplit ! $ drop ! $ fsplit ! $ drop ! $ move ! (2 ∷ []) $ split ! $ move ! (1 ∷ []) $ split ! $ move ! (2 ∷ []) $ split ! $
+      -- [db; ends; name; id; refusal's last value; the tokens; the result]
+      move ! (3 ∷ 4 ∷ []) $ fjoin ! $ move ! (3 ∷ 0 ∷ []) $ fjoin ! $ move ! (2 ∷ 0 ∷ []) $ fjoin ! $ move ! (1 ∷ 0 ∷ []) $ fjoin ! $
+      move ! (0 ∷ 2 ∷ []) $ join ! $ move ! (1 ∷ 0 ∷ []) $ join ! $ frame ! $ done !
 
   -- the machine value of a reader has the struct's MIR type, whose lifetimes a local's erases
-  typed : (c : Reader) (u : Val) → Is (T.the-row α) c (u ∷ []) → Holds (hasTy (T′.mir erased) u) × WT u
-  typed c u is = LL.lawful (T.the-type αᵉ) (T′.the-laws αᵉ) 𝓤 H A W .typed c _ is .0
+  typed : (c : Reader) (u : Val) → Is (T.the-row α β) c (u ∷ []) → Holds (hasTy (T′.mir erased erased) u) × WT u
+  typed c u is = LL.lawful (T.the-type αᵉ βᵉ) (T′.the-laws αᵉ βᵉ) 𝓤 H A W .typed c _ is .0
 
   module _ (C : Calls 𝓤 H) (Λ : Loops 𝓤 H) (fm : FmC 𝓤 H (W .laws) C) (known : Known 𝓤 H A mem run C) where
-    walk : Is Db d (v ∷ []) → Is Name s (w ∷ []) → Is Id t (z ∷ [])
-        → ent 𝓤 entry (WpFn 𝓤 H C Λ code.function (v ∷ w ∷ z ∷ m ∷ []) Post)
-    walk o p i =
-        qed W (raw entry ∷ []) ∵ enter ! C Λ code.function (v ∷ w ∷ z ∷ m ∷ []) _ $
+    walk : Is Db d (v ∷ []) → Is Ends ends (vₑ ∷ []) → Is Name s (w ∷ []) → Is Id t (z ∷ [])
+        → ent 𝓤 entry (WpFn 𝓤 H C Λ code.function (v ∷ vₑ ∷ w ∷ z ∷ m ∷ []) Post)
+    walk o oₑ p i =
+        qed W (raw entry ∷ []) ∵ enter ! C Λ code.function (v ∷ vₑ ∷ w ∷ z ∷ m ∷ []) _ $
         alloc1 ! (λ l₀. alloc1 ! (λ l₁. alloc1 ! (λ l₂. alloc1 !
         (λ l₃. alloc1 ! (λ l₄. alloc1 ! (λ l₅. alloc1 ! (λ l₆. alloc1 !
-        (λ l₇. alloc1 ! (λ l₈. alloc1 ! (λ l₉. alloc1 ! (λ l₁₀. alloc1 ! (λ l₁₁. alloc1 ! (λ l₁₂. alloc0 ! $ params1 ! $
-        pass1 ! (init ! 22 refl (shr-slice-lawful 𝓤 H A W (named 0) κ₀ u8 .typed d (v ∷ []) o .0)) $
-        pass1 ! (init ! 20 refl (shr-slice-lawful 𝓤 H A W (named 1) κ₁ u8 .typed s (w ∷ []) p .0)) $
-        pass1 ! (init ! 18 refl (shr-slice-lawful 𝓤 H A W (named 2) κ₂ u8 .typed t (z ∷ []) i .0)) $ pass1 ! (init ! 16 refl (tt, tt)) $ pass0 ! $
-        -- [room for _12; …; _4; …; _3; …; _2; …; _1; …; room for _0; …; what the function is given]: the local _i stands at 24 - 2 i
-        move ! (26 ∷ []) $ use1 W (raw (Open 𝓤 H A mem run .pre to-open) ⊛ Kept-open) goes-open $ split ! $
-        calls-at ! fm (Open 𝓤 H A mem run) (known .open-met) to-open (and-then ! (load ! (from ! (stop !)) (look ! 24 refl)) (no-more !)) (λ u.
-        use1 W (later (some (λ (c : Reader). ((T₀ ⊛ ‵ ftrue) ⊛ ‵ (OwnR c u)) ⊛ raw
-        (ensured 𝓤 H A open′.ended (open′.clauses 𝓤 H A mem run) (κ₀, tt) (d, tt) tt c)))) (id⊢ 𝓤 _) $ await ! tt $ pick ! (λ c.
+        (λ l₇. alloc1 ! (λ l₈. alloc1 ! (λ l₉. alloc1 ! (λ l₁₀. alloc1 ! (λ l₁₁. alloc1 ! (λ l₁₂. alloc1 ! (λ l₁₃. alloc0 ! $ params1 ! $
+        pass1 ! (init ! 24 refl (shr-slice-lawful 𝓤 H A W (named 0) κ₀ u8 .typed d (v ∷ []) o .0)) $
+        pass1 ! (init ! 22 refl (shr-slice-lawful 𝓤 H A W (named 1) κₑ usize .typed ends (vₑ ∷ []) oₑ .0)) $
+        pass1 ! (init ! 20 refl (shr-slice-lawful 𝓤 H A W (named 2) κ₁ u8 .typed s (w ∷ []) p .0)) $
+        pass1 ! (init ! 18 refl (shr-slice-lawful 𝓤 H A W (named 3) κ₂ u8 .typed t (z ∷ []) i .0)) $ pass1 ! (init ! 16 refl (tt, tt)) $ pass0 ! $
+        -- [room for _13; …; _5; …; _4; …; _3; …; _2; …; _1; …; room for _0; …; what the function is given]: the local _i stands at 26 - 2 i
+        move ! (28 ∷ []) $ use1 W (raw (Open 𝓤 H A mem run .pre to-open) ⊛ Kept-open) goes-open $ split ! $
+        calls-at ! fm (Open 𝓤 H A mem run) (known .open-met) to-open
+        (and-then ! (load ! (from ! (stop !)) (look ! 26 refl)) (and-then ! (load ! (from ! (stop !)) (look ! 24 refl)) (no-more !))) (λ u.
+        use1 W (later (some (λ (c : Reader). (opened ⊛ ‵ (OwnR c u)) ⊛ raw
+        (ensured 𝓤 H A open′.ended (open′.clauses 𝓤 H A mem run) κ-opened (d, (ends, tt)) tt c)))) (id⊢ 𝓤 _) $ await ! tt $ pick ! (λ c.
         split ! $ move ! (1 ∷ []) $ drop ! $ split ! $ move ! (1 ∷ []) $
-        -- [what the struct owns; the database's token; what is kept; the locals]
-        peeks ! (T.the-row α) (Is (T.the-row α)) (shows 𝓤 H A (T.the-row α)) c (u ∷ []) (λ is.
+        -- [what the struct owns; the tokens of `open`; what is kept; the locals]
+        peeks ! (T.the-row α β) (Is (T.the-row α β)) (shows 𝓤 H A (T.the-row α β)) c (u ∷ []) (λ is.
         land ! (from ! (stop !)) (init ! 17 refl (typed c u is)) $ join ! $ use2 W (asked ⊛ Kept c u) (goes-on c u) $ split ! $
         -- Flag. [the tokens of a question; what is kept; the locals]
         assigns ! (of-opd ! (load ! (from ! (stop !)) (look ! 16 refl))) (from ! (stop !)) (init ! 10 refl (typed c u is)) $
@@ -391,38 +430,46 @@ module _ {M : Type 1} (𝓤 : URA M) (H : Heap 𝓤) (A : Atoms 𝓤) (W : Given
         split ! $ move ! (1 ∷ []) $ drop ! $ move ! (1 ∷ []) $ split ! $ move ! (1 ∷ []) $
         -- [the result; the tokens of Show; refusal's last value; what is kept; the locals]
         peeks ! Db (Is Db) (shows 𝓤 H A Db) r (g ∷ []) (λ is-r.
-        land ! (from ! (stop !)) (init ! 28 refl (shr-slice-lawful 𝓤 H A W (named 0) κ₀ u8 .typed r (g ∷ []) is-r .0)) $
-        returns ! (look ! 28 refl) $ forget ! 4 refl $ forget ! 6 refl $ forget ! 8 refl $ forget ! 10 refl $ forget ! 12 refl $ forget ! 14 refl $
+        land ! (from ! (stop !)) (init ! 30 refl (shr-slice-lawful 𝓤 H A W (named 0) κ₀ u8 .typed r (g ∷ []) is-r .0)) $
+        returns ! (look ! 30 refl) $ forget ! 4 refl $ forget ! 6 refl $ forget ! 8 refl $ forget ! 10 refl $ forget ! 12 refl $ forget ! 14 refl $
         forget ! 16 refl $ forget ! 18 refl $ forget ! 20 refl $ forget ! 22 refl $ forget ! 24 refl $ forget ! 26 refl $ forget ! 28 refl $
-        move ! (28 ∷ 29 ∷ []) $ free1 ! $ move ! (26 ∷ 27 ∷ []) $ free1 ! $ move ! (24 ∷ 25 ∷ []) $ free1 ! $ move ! (22 ∷ 23 ∷ []) $ free1 ! $
-        move ! (20 ∷ 21 ∷ []) $ free1 ! $ move ! (18 ∷ 19 ∷ []) $ free1 ! $ move ! (16 ∷ 17 ∷ []) $ free1 ! $
+        forget ! 30 refl $ move ! (30 ∷ 31 ∷ []) $ free1 ! $ move ! (28 ∷ 29 ∷ []) $ free1 ! $ move ! (26 ∷ 27 ∷ []) $ free1 ! $
+        move ! (24 ∷ 25 ∷ []) $ free1 ! $ move ! (22 ∷ 23 ∷ []) $ free1 ! $ move ! (20 ∷ 21 ∷ []) $ free1 ! $
+        move ! (18 ∷ 19 ∷ []) $ free1 ! $ move ! (16 ∷ 17 ∷ []) $ free1 ! $
         move ! (14 ∷ 15 ∷ []) $ free1 ! $ move ! (12 ∷ 13 ∷ []) $ free1 ! $ move ! (10 ∷ 11 ∷ []) $ free1 ! $ move ! (8 ∷ 9 ∷ []) $ free1 ! $
-        move ! (6 ∷ 7 ∷ []) $ free1 ! $ move ! (4 ∷ 5 ∷ []) $ free1 ! $ free0 ! $ by ! (exits c r g (ws .1 .1 .0)))))))))))))))))))))))))))))))
+        move ! (6 ∷ 7 ∷ []) $ free1 ! $ move ! (4 ∷ 5 ∷ []) $ free1 ! $ free0 ! $ by ! (exits c r g (ws .1 .1 .0))))))))))))))))))))))))))))))))
 
 module _ {M : Type 1} (𝓤 : URA M) (H : Heap 𝓤) (A : Atoms 𝓤) (W : Given 𝓤 H A) (mem : Memory → SProp 𝓤) (run : Routine → Fun 𝓤) where
   asks-walks : (C : Calls 𝓤 H) (Λ : Loops 𝓤 H) → FmC 𝓤 H (W .laws) C
       → Known 𝓤 H A mem run C
       → Walks 𝓤 H A asks.ended stayed (WpFn 𝓤 H C Λ code.function) (asks.clauses 𝓤 H A mem run)
   asks-walks C Λ fm known = walked 𝓤 H A asks.ended stayed (asks.clauses 𝓤 H A mem run) (WpFn 𝓤 H C Λ code.function)
-      (λ κs. (slice-vals, (slice-vals, (slice-vals, (ptr-vals, tt)))))
+      (λ κs. (slice-vals, (slice-vals, (slice-vals, (slice-vals, (ptr-vals, tt))))))
       (λ κs. (
         shr-slice-tells (named 0) (κs .0) u8,
         (
-          shr-slice-tells (named 1) (κs .1 .0) u8,
-          (shr-slice-tells (named 2) (κs .1 .1 .0) u8, (mut-tells (named 3) (κs .1 .1 .1 .0) u8, tt)),
+          shr-slice-tells (named 1) (κs .1 .0) usize,
+          (
+            shr-slice-tells (named 2) (κs .1 .1 .0) u8,
+            (shr-slice-tells (named 3) (κs .1 .1 .1 .0) u8, (mut-tells (named 4) (κs .1 .1 .1 .1 .0) u8, tt)),
+          ),
         ),
       ))
-      (λ κs qs bounds a g are. via 𝓤 _ (fst∗ 𝓤 _ (emp 𝓤)) (walk 𝓤 H A W mem run (κs .0) (κs .1 .0) (κs .1 .1 .0) (κs .1 .1 .1 .0) (qs .0) (qs .1 .0)
-      (qs .1 .1 .0) (qs .1 .1 .1 .0) (a .0) (a .1 .0) (a .1 .1 .0) (a .1 .1 .1 .0) C Λ fm known (are .0) (are .1 .0) (are .1 .1 .0)))
+      (λ κs qs bounds a g are. via 𝓤 _ (fst∗ 𝓤 _ (emp 𝓤)) (walk 𝓤 H A W mem run (κs .0) (κs .1 .0) (κs .1 .1 .0) (κs .1 .1 .1 .0) (κs .1 .1 .1 .1 .0)
+      (qs .0) (qs .1 .0) (qs .1 .1 .0) (qs .1 .1 .1 .0) (qs .1 .1 .1 .1 .0) (a .0) (a .1 .0) (a .1 .1 .0) (a .1 .1 .1 .0) (a .1 .1 .1 .1 .0) C Λ fm known
+      (are .0) (are .1 .0) (are .1 .1 .0) (are .1 .1 .1 .0)))
 
 asks-meets : {M : Type 1} (𝓤 : URA M) (H : Heap 𝓤) (A : Atoms 𝓤) (W : Given 𝓤 H A) (mem : Memory → SProp 𝓤) (run : Routine → Fun 𝓤) (𝓣 : Tables 𝓤 H)
     → Known 𝓤 H A mem run (𝓣 .C)
     → Meets 𝓤 H A asks.signature (WpFn 𝓤 H (𝓣 .C) (𝓣 .Λ) code.function) (asks.spec 𝓤 H A mem run)
 asks-meets 𝓤 H A W mem run 𝓣 known = walk-meets 𝓤 H A asks.ended stayed W (
-  goes-none-slice 𝓤 H A W 4 (0 ∷ []) tt (plain (λ _. u8)) yes,
+  goes-none-slice 𝓤 H A W 5 (0 ∷ []) tt (plain (λ _. u8)) yes,
   (
-    goes-none-slice 𝓤 H A W 4 (1 ∷ []) tt (plain (λ _. u8)) yes,
-    (goes-none-slice 𝓤 H A W 4 (2 ∷ []) tt (plain (λ _. u8)) yes, (goes-gave-ref 𝓤 H A W 4 3 tt (plain (λ _. u8)), tt)),
+    goes-none-slice 𝓤 H A W 5 (1 ∷ []) tt (plain (λ _. usize)) yes,
+    (
+      goes-none-slice 𝓤 H A W 5 (2 ∷ []) tt (plain (λ _. u8)) yes,
+      (goes-none-slice 𝓤 H A W 5 (3 ∷ []) tt (plain (λ _. u8)) yes, (goes-gave-ref 𝓤 H A W 5 4 tt (plain (λ _. u8)), tt)),
+    ),
   ),
 ) (asks.clauses 𝓤 H A mem run)
     (WpFn 𝓤 H (𝓣 .C) (𝓣 .Λ) code.function) (WpFn-mono 𝓤 H (W .laws) 𝓣 code.function)

@@ -36,9 +36,9 @@ one-call = refl
 abbrev Says : Saying
 Says = saying (is-number (callee .0))
 
--- what the function called says of these slices is that the answer is Number's, for the database, the name and the id
+-- what the function called says of these slices is that the answer is Number's, for the reader's files, the name and the id
 right : Right p Says (Answers numberAnswer)
-right db name id r answered = answered
+right db name id ends r answered = answered
 
 pub number-spec : {M : Type 1} → stated.statement M
 unfolding code.routine tablesOf

@@ -1,6 +1,6 @@
--- `reader::open` meets its contract: a walk of its MIR, by hand. `kept` is called, and a `Reader` is made of the slice that it gave. By the
--- contract of `kept` that slice has the place and the length of the one passed: to the machine it is that slice.
--- A `&[u8]` is Copy, so what it owns is had three times: for the callee, for db at exit, and inside the result.
+-- `reader::open` meets its contract: a walk of its MIR, by hand. `kept` is called, and a `Reader` is made of the slice that it gave and the ends.
+-- By the contract of `kept` that slice has the place and the length of the one passed: to the machine it is that slice.
+-- A slice is Copy, so what db owns is had three times: for the callee, for db at exit, and inside the result; what the ends own, twice.
 -- Assumes nothing.
 use mathlib.Core.Path.{_≡_, refl, sym, ap, subst, _∙_}
 use Prim.Native.Nat.{ℕ}
@@ -15,6 +15,7 @@ use prog.Memory.{Memory}
 use prog.Routine.{Routine}
 use prog.Wp.{Heap, Env, Calls, Loops, WpFn, Tables}
 use ghost.Atoms.{Atoms, sem}
+use contract.Lifetimes.{Lfts}
 use contract.Monad.{Fun, fact}
 use contract.Running.{givenOf, tables, tablesOf}
 use types.Kit.{Given, Item, Seq, Step, Post as After, lands, step, ‵, raw, _⊛_, ⋆, some, later, _$_, _∵_, !, qed, by, move, use1, split, join, pick, fsplit}
@@ -23,7 +24,7 @@ use types.Part.{agg}
 use types.Run.{look, init, forget, stop, from, load, and-then, no-more, assigns, land, returns, enter, alloc1, alloc0, params1, pass1, pass0, free1, free0}
 use sound.WpLaws.{FmC, fmOf, WpFn-mono}
 use denote.Laws.{Is, shows}
-use denote.Builtin.{u8}
+use denote.Builtin.{u8, usize}
 use denote.Ref.{RefT, NamedLft, now}
 use denote.Signature.{plain, namedLft}
 use denote.Slice.{ShrSlice, slice-vals, shr-slice-tells, shr-slice-lawful, shr-slice-copy}
@@ -32,13 +33,13 @@ use denote.Struct.Rest.{own-shut}
 use denote.Triple.Statement.{Contract, Triple}
 use denote.Triple.Call.{calls-at}
 use denote.Triple.Clauses.{ensured, lasts}
-use denote.Triple.Entry.{onEntry}
+use denote.Triple.Entry.{Vals, onEntry}
 use denote.Triple.Spec.{Meets, tripleOf}
 use denote.Triple.Table.{entered, cited}
 use denote.Triple.Walked.{says, Stays, stay-none-slice, walkOf, goes-none-slice, Walks, ends-at, walked, walk-meets}
 use denote.Exit.{yes}
 use Rattle.reader.specs.declared.Reader.{Reader}
-use Rattle.reader.proofs.Passing.{value}
+use Rattle.reader.proofs.Passing.{value, own-words}
 use Rattle.reader.proofs.Reader as T
 use Rattle.reader.proofs.Reader.Laws as T′
 use Rattle.reader.proofs.kept as step
@@ -51,7 +52,7 @@ use Rattle.reader.proofs.open.Statement as stated
 use Rattle.reader.proofs.open.Code as code
 
 abbrev stayed : Stays (open′.ended .signature .params) (open′.ended .kept)
-stayed = (stay-none-slice (0 ∷ []) tt (plain (λ _. u8)) yes, tt)
+stayed = (stay-none-slice (0 ∷ []) tt (plain (λ _. u8)) yes, (stay-none-slice (1 ∷ []) tt (plain (λ _. usize)) yes, tt))
 
 -- what `kept` says of the slice that it gives
 abbrev Same : RefT (List ℕ) → RefT (List ℕ) → Type 0
@@ -70,45 +71,70 @@ module _ {M : Type 1} (𝓤 : URA M) (H : Heap 𝓤) (A : Atoms 𝓤) (mem : Mem
   abbrev KeptOf : Contract 𝓤
   KeptOf = tripleOf 𝓤 H A step.signature (step.spec 𝓤 H A mem run)
 
-module _ {M : Type 1} (𝓤 : URA M) (H : Heap 𝓤) (A : Atoms 𝓤) (W : Given 𝓤 H A) (mem : Memory → SProp 𝓤) (run : Routine → Fun 𝓤) (κ : Lft) (q : Share)
-    (s : RefT (List ℕ)) where
+module _ {M : Type 1} (𝓤 : URA M) (H : Heap 𝓤) (A : Atoms 𝓤) (W : Given 𝓤 H A) (mem : Memory → SProp 𝓤) (run : Routine → Fun 𝓤) (κ ε : Lft) (q e : Share)
+    (s z : RefT (List ℕ)) where
+  abbrev κs : Lfts 2
+  κs = (κ, (ε, tt))
+
   abbrev α : NamedLft
-  α = namedLft 1 0 tt (κ, tt)
+  α = namedLft 2 0 tt κs
+
+  abbrev β : NamedLft
+  β = namedLft 2 1 tt κs
 
   abbrev made : Reader
-  made = record { db = s }
+  made = record { db = s; ends = z }
 
-  abbrev at : List Val × Unit {0}
-  at = (value s ∷ [], tt)
+  abbrev at : Vals open′.signature κs
+  at = (value s ∷ [], (value z ∷ [], tt))
+
+  abbrev Entry : SProp 𝓤
+  Entry = onEntry 𝓤 H A open′.signature κs (q, (e, tt)) (s, (z, tt)) at
 
   abbrev Post : Val → SProp 𝓤
-  Post = walkOf 𝓤 H A open′.ended stayed (open′.clauses 𝓤 H A mem run) .post (((κ, tt), (q, tt), tt, (s, tt), at), tt)
+  Post = walkOf 𝓤 H A open′.ended stayed (open′.clauses 𝓤 H A mem run) .post ((κs, (q, (e, tt)), tt, (s, (z, tt)), at), tt)
 
   abbrev Own : Fml
   Own = ShrSlice (named 0) κ u8 .own s (value s ∷ [])
 
-  abbrev to : KeptOf 𝓤 H A mem run .Ghost
-  to = (((κ, tt), (q, tt), tt, (s, tt), at), tt)
+  abbrev Ends : Fml
+  Ends = own-words ε z
 
-  asked : ent 𝓤 (onEntry 𝓤 H A step.signature (κ, tt) (q, tt) (s, tt) at) (KeptOf 𝓤 H A mem run .pre to)
-  asked = qed W (raw (onEntry 𝓤 H A step.signature (κ, tt) (q, tt) (s, tt) at) ∷ []) ∵ frame ! $ done !
+  -- what is kept over the call
+  abbrev Kept : Fml
+  Kept = fsep (flft ε e) (fsep (fsep Own Own) (fsep Ends Ends))
+
+  abbrev to : KeptOf 𝓤 H A mem run .Ghost
+  to = (((κ, tt), (q, tt), tt, (s, tt), (value s ∷ [], tt)), tt)
+
+  asked : ent 𝓤 (onEntry 𝓤 H A step.signature (κ, tt) (q, tt) (s, tt) (value s ∷ [], tt)) (KeptOf 𝓤 H A mem run .pre to)
+  asked = qed W (raw (onEntry 𝓤 H A step.signature (κ, tt) (q, tt) (s, tt) (value s ∷ [], tt)) ∷ []) ∵ frame ! $ done !
 
   twice : ent 𝓤 (sem 𝓤 H A Own) (sep 𝓤 (sem 𝓤 H A Own) (sem 𝓤 H A Own))
   twice = shr-slice-copy 𝓤 H A W (named 0) κ u8 .twice s (value s ∷ [])
 
-  apart : ent 𝓤 (onEntry 𝓤 H A open′.signature (κ, tt) (q, tt) (s, tt) at) (sep 𝓤 (KeptOf 𝓤 H A mem run .pre to) (sem 𝓤 H A (fsep Own Own)))
+  apart : ent 𝓤 Entry (sep 𝓤 (KeptOf 𝓤 H A mem run .pre to) (sem 𝓤 H A Kept))
   apart =
-      qed W ((‵ (flft κ q) ⊛ ‵ ftrue) ∷ ‵ (fsep Own ftrue) ∷ []) ∵ move ! (1 ∷ []) $ fsplit ! $ use1 W (‵ Own ⊛ ‵ Own) twice $ split ! $
-      use1 W (‵ Own ⊛ ‵ Own) twice $ split ! $ move ! (0 ∷ 3 ∷ []) $ fjoin ! $ move ! (3 ∷ 0 ∷ []) $ join ! $
-      use1 W (raw (KeptOf 𝓤 H A mem run .pre to)) asked $ frame ! $ fjoin ! $ done !
+      qed W ((‵ (flft κ q) ⊛ (‵ (flft ε e) ⊛ ‵ ftrue)) ∷ ‵ (fsep Own (fsep Ends ftrue)) ∷ []) ∵ move ! (1 ∷ []) $ fsplit ! $
+      use1 W (‵ Own ⊛ ‵ Own) twice $ split ! $ use1 W (‵ Own ⊛ ‵ Own) twice $ split ! $ move ! (3 ∷ []) $ fsplit ! $
+      use1 W (‵ Ends ⊛ ‵ Ends) (shr-slice-copy 𝓤 H A W erased ε usize .twice z (value z ∷ [])) $ split ! $
+      -- [what the ends own, twice; ftrue; what db owns, three times; the tokens]
+      move ! (6 ∷ []) $ split ! $ move ! (1 ∷ []) $ split ! $ move ! (2 ∷ 1 ∷ []) $ join ! $ move ! (5 ∷ 4 ∷ []) $ fjoin ! $ move ! (1 ∷ 0 ∷ []) $ join ! $
+      use1 W (raw (KeptOf 𝓤 H A mem run .pre to)) asked $ frame ! $
+      -- [the token of the ends; what they own, twice; what db owns, twice]
+      move ! (3 ∷ 4 ∷ []) $ fjoin ! $ move ! (2 ∷ 3 ∷ []) $ fjoin ! $ move ! (1 ∷ 0 ∷ []) $ fjoin ! $ move ! (1 ∷ 0 ∷ []) $ fjoin ! $ done !
 
-  exits : ent 𝓤 (⋆ 𝓤 H A ((‵ (flft κ q) ⊛ ‵ ftrue) ∷ ‵ (fsep Own Own) ∷ [])) (Post (T′.lowered made))
+  exits : ent 𝓤 (⋆ 𝓤 H A ((‵ (flft κ q) ⊛ ‵ ftrue) ∷ ‵ Kept ∷ [])) (Post (T′.lowered made))
   exits =
-      qed W ((‵ (flft κ q) ⊛ ‵ ftrue) ∷ ‵ (fsep Own Own) ∷ []) ∵
-      suffices ! _ (ends-at 𝓤 H A open′.ended stayed (open′.clauses 𝓤 H A mem run) W (((κ, tt), (q, tt), tt, (s, tt), at), tt) (T′.lowered made) made (tt, tt)
-      (tt, tt)) $ says ! refl $ frame ! $ fsplit ! $ nothing ! $ move ! (1 ∷ 0 ∷ []) $ fjoin ! $ frame ! $
-      -- [what db owns]: what the fields own together is what the struct owns
-      nothing ! $ move ! (1 ∷ 0 ∷ []) $ fjoin ! $ by ! (own-shut 𝓤 H A W (T.the-type α) (T′.the-laws α) (s, tt))
+      qed W ((‵ (flft κ q) ⊛ ‵ ftrue) ∷ ‵ Kept ∷ []) ∵
+      suffices ! _ (ends-at 𝓤 H A open′.ended stayed (open′.clauses 𝓤 H A mem run) W ((κs, (q, (e, tt)), tt, (s, (z, tt)), at), tt) (T′.lowered made) made
+      (tt, (tt, tt)) (tt, (tt, tt))) $ says ! (refl, refl) $
+      split ! $ move ! (2 ∷ []) $ fsplit ! $ move ! (0 ∷ 3 ∷ []) $ join ! $ move ! (2 ∷ 0 ∷ []) $ join ! $ frame ! $
+      fsplit ! $ fsplit ! $ move ! (2 ∷ []) $ fsplit ! $
+      -- [what the ends own, twice; what db owns, twice]: one of each for the parameters at exit
+      nothing ! $ move ! (1 ∷ 0 ∷ []) $ fjoin ! $ move ! (2 ∷ 0 ∷ []) $ fjoin ! $ frame ! $
+      -- [what the ends own; what db owns]: what the fields own together is what the struct owns
+      nothing ! $ move ! (1 ∷ 0 ∷ []) $ fjoin ! $ move ! (1 ∷ 0 ∷ []) $ fjoin ! $ by ! (own-shut 𝓤 H A W (T.the-type α β) (T′.the-laws α β) (s, (z, tt)))
 
   -- of what `kept` ensures, the clause alone: it has no `&mut`, so what is said of last values is dropped
   abbrev Ensured : RefT (List ℕ) → SProp 𝓤
@@ -118,36 +144,47 @@ module _ {M : Type 1} (𝓤 : URA M) (H : Heap 𝓤) (A : Atoms 𝓤) (W : Given
   said r = exE 𝓤 _ (λ ws. snd∗ 𝓤 (sem 𝓤 H A (lasts step.ended (κ, tt) (s, tt) ws)) (fact 𝓤 (Same s r)))
 
   module _ (C : Calls 𝓤 H) (Λ : Loops 𝓤 H) (fm : FmC 𝓤 H (W .laws) C) (known : Triple 𝓤 (C #reader·kept) (KeptOf 𝓤 H A mem run)) where
-    walk : Is (ShrSlice (named 0) κ u8) s (value s ∷ []) → ent 𝓤 (onEntry 𝓤 H A open′.signature (κ, tt) (q, tt) (s, tt) at)
-        (WpFn 𝓤 H C Λ code.function (value s ∷ []) Post)
-    walk p =
-        qed W (raw (onEntry 𝓤 H A open′.signature (κ, tt) (q, tt) (s, tt) at) ∷ []) ∵ enter ! C Λ code.function (value s ∷ []) _ $
-        alloc1 ! (λ l₀. alloc1 ! (λ l₁. alloc1 ! (λ l₂. alloc0 ! $ params1 ! $
-        pass1 ! (init ! 2 refl (shr-slice-lawful 𝓤 H A W (named 0) κ u8 .typed s (value s ∷ []) p .0)) $ pass0 ! $
-        move ! (6 ∷ []) $ use1 W (raw (KeptOf 𝓤 H A mem run .pre to) ⊛ ‵ (fsep Own Own)) apart $ split ! $
-        -- [what the callee is given; what is kept; room for _2; …; _1; …; room for _0; …]
-        calls-at ! fm (KeptOf 𝓤 H A mem run) known to (and-then ! (load ! (from ! (stop !)) (look ! 4 refl)) (no-more !)) (λ u.
+    walk : Is (ShrSlice (named 0) κ u8) s (value s ∷ []) → Is (ShrSlice (named 1) ε usize) z (value z ∷ [])
+        → ent 𝓤 Entry (WpFn 𝓤 H C Λ code.function (value s ∷ value z ∷ []) Post)
+    walk p o =
+        qed W (raw Entry ∷ []) ∵ enter ! C Λ code.function (value s ∷ value z ∷ []) _ $
+        alloc1 ! (λ l₀. alloc1 ! (λ l₁. alloc1 ! (λ l₂. alloc1 ! (λ l₃. alloc0 ! $ params1 ! $
+        pass1 ! (init ! 4 refl (shr-slice-lawful 𝓤 H A W (named 0) κ u8 .typed s (value s ∷ []) p .0)) $
+        pass1 ! (init ! 2 refl (shr-slice-lawful 𝓤 H A W (named 1) ε usize .typed z (value z ∷ []) o .0)) $ pass0 ! $
+        move ! (8 ∷ []) $ use1 W (raw (KeptOf 𝓤 H A mem run .pre to) ⊛ ‵ Kept) apart $ split ! $
+        -- [what the callee is given; what is kept; room for _3; …; _2; …; _1; …; room for _0; …]
+        calls-at ! fm (KeptOf 𝓤 H A mem run) known to (and-then ! (load ! (from ! (stop !)) (look ! 6 refl)) (no-more !)) (λ u.
         use1 W (later (some (λ (r : RefT (List ℕ)). ((‵ (flft κ q) ⊛ ‵ ftrue) ⊛ ‵ (ShrSlice (named 0) κ u8 .own r (u ∷ []))) ⊛ raw (Ensured r)))) (id⊢ 𝓤 _) $
-        await ! tt $ pick ! (λ r. split ! $ move ! (1 ∷ []) $ use1 W (raw (fact 𝓤 (Same s r))) (said r) $ heard ! (Same s r) (λ e. split ! $ move ! (1 ∷ []) $
+        await ! tt $ pick ! (λ r. split ! $ move ! (1 ∷ []) $ use1 W (raw (fact 𝓤 (Same s r))) (said r) $ heard ! (Same s r) (λ f. split ! $ move ! (1 ∷ []) $
         facts ! (ShrSlice (named 0) κ u8) (Is (ShrSlice (named 0) κ u8)) (shows 𝓤 H A (ShrSlice (named 0) κ u8)) r (u ∷ []) (λ is.
-        lands-as ! (ap (λ (vs : List Val). getD vs 0 u) (shr-slice-tells (named 0) κ u8 r (u ∷ []) is) ∙ same-value s r e) $
-        -- [the token; what is kept; room for _2; …; _1; …; room for _0; …]
+        lands-as ! (ap (λ (vs : List Val). getD vs 0 u) (shr-slice-tells (named 0) κ u8 r (u ∷ []) is) ∙ same-value s r f) $
+        -- [the token; what is kept; room for _3; …; _2; …; _1; …; room for _0; …]
         land ! (from ! (stop !)) (init ! 2 refl (shr-slice-lawful 𝓤 H A W erased κ u8 .typed s (value s ∷ []) p .0)) $
-        assigns ! (agg ! (and-then ! (load ! (from ! (stop !)) (look ! 2 refl)) (no-more !))) (from ! (stop !))
-        (init ! 6 refl (tt, (shr-slice-lawful 𝓤 H A W (named 0) κ u8 .typed s (value s ∷ []) p .0 .1, tt))) $
-        returns ! (look ! 6 refl) $ forget ! 2 refl $ forget ! 4 refl $ forget ! 6 refl $ move ! (6 ∷ 7 ∷ []) $ free1 ! $ move ! (4 ∷ 5 ∷ []) $ free1 ! $
-        move ! (2 ∷ 3 ∷ []) $ free1 ! $ free0 ! $ by ! exits)))))))
+        assigns ! (agg ! (and-then ! (load ! (from ! (stop !)) (look ! 2 refl)) (and-then ! (load ! (from ! (stop !)) (look ! 4 refl)) (no-more !))))
+        (from ! (stop !)) (init ! 8 refl (
+          tt,
+          (
+            shr-slice-lawful 𝓤 H A W (named 0) κ u8 .typed s (value s ∷ []) p .0 .1,
+            (shr-slice-lawful 𝓤 H A W (named 1) ε usize .typed z (value z ∷ []) o .0 .1, tt),
+          ),
+        )) $
+        returns ! (look ! 8 refl) $ forget ! 2 refl $ forget ! 4 refl $ forget ! 6 refl $ forget ! 8 refl $ move ! (8 ∷ 9 ∷ []) $ free1 ! $
+        move ! (6 ∷ 7 ∷ []) $ free1 ! $ move ! (4 ∷ 5 ∷ []) $ free1 ! $ move ! (2 ∷ 3 ∷ []) $ free1 ! $ free0 ! $ by ! exits))))))))
 
 module _ {M : Type 1} (𝓤 : URA M) (H : Heap 𝓤) (A : Atoms 𝓤) (W : Given 𝓤 H A) (mem : Memory → SProp 𝓤) (run : Routine → Fun 𝓤) where
   open-walks : (C : Calls 𝓤 H) (Λ : Loops 𝓤 H) → FmC 𝓤 H (W .laws) C → Triple 𝓤 (C #reader·kept) (KeptOf 𝓤 H A mem run)
       → Walks 𝓤 H A open′.ended stayed (WpFn 𝓤 H C Λ code.function) (open′.clauses 𝓤 H A mem run)
-  open-walks C Λ fm known = walked 𝓤 H A open′.ended stayed (open′.clauses 𝓤 H A mem run) (WpFn 𝓤 H C Λ code.function) (λ κs. (slice-vals, tt))
-      (λ κs. (shr-slice-tells (named 0) (κs .0) u8, tt))
-      (λ κs qs bounds a g are. via 𝓤 _ (fst∗ 𝓤 _ (emp 𝓤)) (walk 𝓤 H A W mem run (κs .0) (qs .0) (a .0) C Λ fm known (are .0)))
+  open-walks C Λ fm known = walked 𝓤 H A open′.ended stayed (open′.clauses 𝓤 H A mem run) (WpFn 𝓤 H C Λ code.function) (λ κs. (slice-vals, (slice-vals, tt)))
+      (λ κs. (shr-slice-tells (named 0) (κs .0) u8, (shr-slice-tells (named 1) (κs .1 .0) usize, tt)))
+      (λ κs qs bounds a g are. via 𝓤 _ (fst∗ 𝓤 _ (emp 𝓤))
+      (walk 𝓤 H A W mem run (κs .0) (κs .1 .0) (qs .0) (qs .1 .0) (a .0) (a .1 .0) C Λ fm known (are .0) (are .1 .0)))
 
   open-meets : (𝓣 : Tables 𝓤 H) → Triple 𝓤 (𝓣 .C #reader·kept) (KeptOf 𝓤 H A mem run)
       → Meets 𝓤 H A open′.signature (WpFn 𝓤 H (𝓣 .C) (𝓣 .Λ) code.function) (open′.spec 𝓤 H A mem run)
-  open-meets 𝓣 known = walk-meets 𝓤 H A open′.ended stayed W (goes-none-slice 𝓤 H A W 1 (0 ∷ []) tt (plain (λ _. u8)) yes, tt)
+  open-meets 𝓣 known = walk-meets 𝓤 H A open′.ended stayed W (
+    goes-none-slice 𝓤 H A W 2 (0 ∷ []) tt (plain (λ _. u8)) yes,
+    (goes-none-slice 𝓤 H A W 2 (1 ∷ []) tt (plain (λ _. usize)) yes, tt),
+  )
       (open′.clauses 𝓤 H A mem run) (WpFn 𝓤 H (𝓣 .C) (𝓣 .Λ) code.function) (WpFn-mono 𝓤 H (W .laws) 𝓣 code.function)
       (open-walks (𝓣 .C) (𝓣 .Λ) (fmOf 𝓤 H (W .laws) 𝓣) known)
 

@@ -10,8 +10,8 @@ use Rattle.tclist.proofs.Texts.{list-fits}
 use Rattle.tclist.proofs.put_listing.Statement.{statement}
 use Rattle.tclist.proofs.put_listing.Tie as tie
 
-list-requires : tie.Need-list-requires
-list-requires c κs = search needs
+list-alone-requires : tie.Need-list-alone-requires
+list-alone-requires c κs = search needs
 
 enum-known-n : tie.Need-enum-known-n
 enum-known-n c = search needs
@@ -19,24 +19,24 @@ enum-known-n c = search needs
 mul-put-records : tie.Need-mul-put-records
 mul-put-records c =
     let d = c .before in
-    omega (arith, list-fits _ _ _ _ (sym (d .before .before .before .before .list .ensures .0) ∙ d .n .given .1))
+    omega (arith, list-fits _ _ _ _ (sym (d .before .before .before .before .list-alone .ensures .0) ∙ d .n .given .1))
 
 slice-reshare-prefix-put-records : tie.Need-slice-reshare-prefix-put-records
 slice-reshare-prefix-put-records c =
     let d = c .before in
-    let l = d .before .before .before .before .list in
+    let l = d .before .before .before .before .list-alone in
     omega (arith, list-fits _ _ _ _ (sym (l .ensures .0) ∙ d .n .given .1), l .kept .1 .1 .0)
 
 slice-aggregate-put-records : tie.Need-slice-aggregate-put-records
 slice-aggregate-put-records c =
     let d = c .before .before in
-    let fits = list-fits _ _ _ _ (sym (d .before .before .before .before .list .ensures .0) ∙ d .n .given .1) in
-    sym (length-take-le _ _ (omega (arith, d .before .before .before .before .list .kept .1 .1 .0)))
+    let fits = list-fits _ _ _ _ (sym (d .before .before .before .before .list-alone .ensures .0) ∙ d .n .given .1) in
+    sym (length-take-le _ _ (omega (arith, d .before .before .before .before .list-alone .kept .1 .1 .0)))
 
 put-records-requires : tie.Need-put-records-requires
 put-records-requires c κs =
     let d = c .before .before .before in
-    simp length-take (omega (arith, list-fits _ _ _ _ (sym (d .before .before .before .before .list .ensures .0) ∙ d .n .given .1)))
+    simp length-take (omega (arith, list-fits _ _ _ _ (sym (d .before .before .before .before .list-alone .ensures .0) ∙ d .n .given .1)))
 
 enum-known-r : tie.Need-enum-known-r
 enum-known-r c = search needs
@@ -54,7 +54,7 @@ returns : tie.Need-returns
 unfolding answerText
 returns c =
     let p = c .before .before .put-records .ensures in
-    let l = c .before .before .before .before .before .before .before .before .before .before .list in
+    let l = c .before .before .before .before .before .before .before .before .before .before .list-alone in
     let fits = list-fits _ _ _ _ (sym (l .ensures .0) ∙ c .before .before .before .before .before .before .n .given .1) in
     let bound = simp length-take at (p .1) in
     let inside : c .before .before .put-records .result ≤ length (c .before .before .put-records .last .1 .0) =
@@ -71,7 +71,7 @@ returns-2 : tie.Need-returns-2
 unfolding answerText
 returns-2 c =
     let p = c .before .before .put-refusal .ensures in
-    let l = c .before .before .before .before .before .before .before .before .before .list in
+    let l = c .before .before .before .before .before .before .before .before .before .list-alone in
     let inside : c .before .before .put-refusal .result ≤ length (c .before .before .put-refusal .last .1 .0) =
     omega (arith, p .1, c .before .before .put-refusal .kept .1 .0) in
     rw (← l .ensures .0, ← l .ensures .1, c .before .before .before .before .before .r .given .1) (p .0, (inside, sym (length-take-le _ _ inside)))
@@ -80,7 +80,7 @@ pub put-listing-spec : {M : Type 1} → statement M
 put-listing-spec =
     tie.close
     (tie.spec
-    list-requires
+    list-alone-requires
     enum-known-n
     mul-put-records
     slice-reshare-prefix-put-records

@@ -4,10 +4,10 @@ use Rattle.tclist.proofs.separator.Statement.{statement}
 use Rattle.tclist.proofs.separator.Tie as tie
 
 returns : tie.Need-returns
-returns c = rw (eq-eqb _ 7 (c .if1 .taken))
+returns c = rw (eq-eqb _ _ (c .if1 .taken))
 
 returns-2 : tie.Need-returns-2
-returns-2 c = rw (ne-eqb _ 7 (c .if1 .left))
+returns-2 c = rw (ne-eqb _ _ (c .if1 .left))
 
 pub separator-spec : {M : Type 1} → statement M
 separator-spec = tie.close (tie.spec returns returns-2)
