@@ -12,19 +12,21 @@
 #include "termcap_proved.h"
 
 enum { STACK = 1 << 20, PAINT = 0xA5 };
-enum { SHOW, FLAG, NUMBER, STRING, LIST, FLAT, BATCH, REPAIR, SEND, SEND_AT, CALLS, NONE = CALLS };
+enum { SHOW, SEARCH, FLAG, NUMBER, STRING, LIST, FLAT, BATCH, REPAIR, SEND, SEND_AT, CALLS };
+enum { NONE = CALLS };
 
 static uint8_t stack[STACK] __attribute__((aligned(4096)));
 static uint8_t db[1048576], mended[1048576], out[1 << 17], command[16384];
 static size_t db_len, command_len;
 static const char *name = "";
 
-static const char *const calls[CALLS] = {"show", "flag",  "number", "string", "list",
-                                         "flat", "batch", "repair", "send",   "send_at"};
-static const size_t most[CALLS] = {TERMCAP_STACK_SHOW,     TERMCAP_STACK_QUESTION,
+static const char *const calls[CALLS] = {"show", "search", "flag",   "number", "string", "list",
+                                         "flat", "batch",  "repair", "send",   "send_at"};
+static const size_t most[CALLS] = {TERMCAP_STACK_SHOW,     TERMCAP_STACK_SHOW,
                                    TERMCAP_STACK_QUESTION, TERMCAP_STACK_QUESTION,
-                                   TERMCAP_STACK_LIST,     TERMCAP_STACK_LIST,
-                                   TERMCAP_STACK_BATCH,    TERMCAP_STACK_REPAIR,
+                                   TERMCAP_STACK_QUESTION, TERMCAP_STACK_LIST,
+                                   TERMCAP_STACK_LIST,     TERMCAP_STACK_BATCH,
+                                   TERMCAP_STACK_REPAIR,
                                    TERMCAP_STACK_SEND,     TERMCAP_STACK_SEND};
 static size_t measured[CALLS];
 
@@ -40,6 +42,10 @@ static void *call(void *which)
     case SHOW:
         termcap_show(db, db_len, n, n_len, &x, &y);
         termcap_show_files(db, db_len, ends, TERMCAP_FILES, n, n_len, &x, &y);
+        break;
+    case SEARCH:
+        termcap_search(db, db_len, n, n_len, &x, &y);
+        termcap_search_files(db, db_len, ends, TERMCAP_FILES, n, n_len, &x, &y);
         break;
     case FLAG:
         termcap_flag(db, db_len, n, n_len, id, 2, &x);

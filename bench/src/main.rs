@@ -2,6 +2,7 @@
 
 mod agreement;
 mod batches;
+mod compared;
 mod contender;
 mod counts;
 mod databases;
@@ -93,6 +94,7 @@ fn measure(targets: &mut Targets) -> agreement::Checked {
     batches::check(&to_batch)?;
     let to_repair = databases::repairs::all();
     repairs::check(&to_repair)?;
+    compared::check(&large)?;
 
     main_table::print(&groups, targets);
     growth::print(&series);
@@ -100,6 +102,7 @@ fn measure(targets: &mut Targets) -> agreement::Checked {
     batches::print(&to_batch, targets);
     repairs::print(&to_repair, targets);
     several_files::print(&large.bytes, targets);
+    compared::print(&large);
     let [searching, _, _, sending] = &groups[..] else {
         return Err("the groups of rows are not those that are counted".to_string());
     };

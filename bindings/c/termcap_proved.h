@@ -110,8 +110,8 @@ extern "C" {
  * proved (crates/demands/specs/RepairPromises.antt). */
 #define TERMCAP_REPAIR_RECORDS_BYTES(db_len) (8 * ((size_t)(db_len) + 1))
 
-/* The stack a call needs, in bytes, with one file or several: of termcap_show; of termcap_flag,
- * termcap_number and termcap_string; of termcap_list and termcap_flat; of termcap_batch; of
+/* The stack a call needs, in bytes, with one file or several: of termcap_show and termcap_search; of
+ * termcap_flag, termcap_number and termcap_string; of termcap_list and termcap_flat; of termcap_batch; of
  * termcap_repair; of termcap_send and termcap_send_at. */
 #define TERMCAP_STACK_SHOW 5120u
 #define TERMCAP_STACK_QUESTION 9216u
@@ -138,6 +138,24 @@ uint32_t termcap_show(const uint8_t *db, size_t db_len, const uint8_t *name, siz
 uint32_t termcap_show_files(const uint8_t *db, size_t db_len, const size_t *ends, size_t ends_len,
                             const uint8_t *name, size_t name_len, uint64_t *start,
                             uint64_t *length);
+
+/*
+ * Search, for measurements: whether a description has the name, and how many names a search that goes
+ * from name to name compares: exactly those of its length in lines that aren't ignored, up to and with
+ * the first equal one, or all if none is. It finds the names that Show finds, and is slower: Show passes
+ * over most of the database without a look at single names. Show compares no byte of a name of another
+ * length, either, but it may compare text that is no name, as a field or a comment, so this count is
+ * not Show's.
+ *
+ * TERMCAP_OK: *found is 1 or 0, and *compared the number of names: both also where the name is not found,
+ * which is no refusal here.
+ * Refusals: 1, 3; with ends also 16.
+ */
+uint32_t termcap_search(const uint8_t *db, size_t db_len, const uint8_t *name, size_t name_len,
+                        uint64_t *found, uint64_t *compared);
+uint32_t termcap_search_files(const uint8_t *db, size_t db_len, const size_t *ends,
+                              size_t ends_len, const uint8_t *name, size_t name_len,
+                              uint64_t *found, uint64_t *compared);
 
 /*
  * Flag: whether the terminal has the flag.

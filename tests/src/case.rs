@@ -14,6 +14,7 @@ use crate::subject::{Reference, Subject, ABSENT, ACCEPTED};
 pub enum Operation {
     #[default]
     Show,
+    Search,
     Flag,
     Number,
     String,
@@ -30,8 +31,9 @@ pub enum Operation {
 }
 
 impl Operation {
-    pub const ALL: [Operation; 12] = [
+    pub const ALL: [Operation; 13] = [
         Operation::Show,
+        Operation::Search,
         Operation::Flag,
         Operation::Number,
         Operation::String,
@@ -60,7 +62,7 @@ impl Operation {
 
     pub fn takes_room(self) -> bool {
         use Operation::*;
-        !matches!(self, Show | Flag | Number)
+        !matches!(self, Show | Search | Flag | Number)
     }
 
     /// The names of the numbers it reports.
@@ -68,6 +70,7 @@ impl Operation {
         use Operation::*;
         match self {
             Show => &["start", "length"],
+            Search => &["found", "compared"],
             Flag | Number => &["value"],
             List => &["records"],
             Batch => &["answers"],
@@ -162,6 +165,7 @@ pub fn observe(case: &Case, subject: &impl Subject) -> Observed {
     let position = Position { row: case.row, column: case.column, back: &case.back, up: &case.up };
     seen.code = match case.operation {
         Operation::Show => subject.show(database, name, first, second),
+        Operation::Search => subject.search(database, name, first, second),
         Operation::Flag => subject.flag(database, name, id, first),
         Operation::Number => subject.number(database, name, id, first),
         Operation::String => subject.string(database, name, id, out, first),
@@ -443,7 +447,9 @@ mod tests {
             .expect("flags are often present");
         let fails = |case: &Case| disagreement(case, &subject).is_some();
         let small = shrink(&case, Duration::from_secs(20), fails);
-        assert_eq!((small.database.len(), small.name.len(), small.id.len()), (4, 1, 2), "{small}");
+        // The name, a colon and the flag are left.
+        let line = [&small.name, &b":"[..], &small.id].concat();
+        assert_eq!((&small.database, small.id.len()), (&line, 2), "{small}");
     }
 
     #[test]

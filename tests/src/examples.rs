@@ -20,6 +20,11 @@ pub enum Expected {
         start: u64,
         length: u64,
     },
+    /// Whether the name is found, and how many names were compared.
+    Counted {
+        found: bool,
+        compared: u64,
+    },
     Value(u64),
     /// The bytes written, and their count.
     Bytes(Vec<u8>),
@@ -30,7 +35,7 @@ pub enum Expected {
     /// The mended database, and line, place, reason and count of each removal.
     Mended(Vec<u8>, Vec<[u32; 4]>),
 }
-use Expected::{Absent, Answers, Bytes, Mended, Records, Refused, Shown, Value};
+use Expected::{Absent, Answers, Bytes, Counted, Mended, Records, Refused, Shown, Value};
 
 /// What is wrong with the subject's answer, in words; nothing if it is the one written here.
 pub fn wrong(example: &Example, subject: &impl Subject) -> Option<String> {
@@ -48,6 +53,7 @@ pub fn wrong(example: &Example, subject: &impl Subject) -> Option<String> {
     let (numbers, bytes): (&[u64], &[u8]) = match &example.expected {
         Refused(_) | Absent => (&[], b""),
         Shown { start, length } => (&[*start, *length], b""),
+        Counted { found, compared } => (&[u64::from(*found), *compared], b""),
         Value(value) => (&[*value], b""),
         Bytes(bytes) => (&[bytes.len() as u64], bytes),
         Records(bytes) => (&[bytes.len() as u64 / 12], bytes),
@@ -93,6 +99,7 @@ pub fn all() -> Vec<Example> {
         order_of_send(),
         several_files(),
         ends_refused(),
+        counting(),
         repairs(),
         repairs_of_links(),
         repairs_refused(),
@@ -117,6 +124,10 @@ fn ask(operation: Operation, database: &[u8], name: &[u8]) -> Case {
 
 fn show(database: &[u8], name: &[u8]) -> Case {
     ask(Operation::Show, database, name)
+}
+
+fn search(database: &[u8], name: &[u8]) -> Case {
+    ask(Operation::Search, database, name)
 }
 
 fn flag(database: &[u8], name: &[u8], id: &[u8]) -> Case {
@@ -1016,6 +1027,45 @@ fn ends_refused() -> Vec<Example> {
         ),
         example("16 of a string", with_ends(string(b"n:cl=:", b"n", b"cl"), &[7]), Refused(16)),
         example("16 of a number", with_ends(number(b"n:co#1:", b"", b""), &[3, 2]), Refused(16)),
+    ]
+}
+
+/// Ask 6: the search that counts.
+fn counting() -> Vec<Example> {
+    // Names of one byte in lines that aren't ignored: n; o, n, p.
+    const DATABASE: &[u8] = b"abc|n:\n#x|m:\n  \no|n|p:am:\n";
+    let found = |compared| Counted { found: true, compared };
+    let missing = |compared| Counted { found: false, compared };
+    let large = vec![b'n'; 1_048_577];
+    vec![
+        example("the first of its length", search(DATABASE, b"n"), found(1)),
+        example("the last of its length", search(DATABASE, b"p"), found(4)),
+        example("a comment holds no names", search(DATABASE, b"m"), missing(4)),
+        example("another length", search(DATABASE, b"abc"), found(1)),
+        example("no name of this length", search(DATABASE, b"ab"), missing(0)),
+        example("a line without a colon is all names", search(b"x\ny|z", b"z"), found(3)),
+        example("names after the equal one", search(b"n|n:\nn:\n", b"n"), found(1)),
+        example("a name that starts with it", search(b"vt100|vt|vt1:", b"vt1"), found(1)),
+        example(
+            "the length is that of the joined name",
+            search(b"a\\\nb|cd:\nab:", b"ab"),
+            found(1),
+        ),
+        example("a pair behind a name", search(b"cd\\\n|ab:", b"ab"), found(2)),
+        example("a comment's next line", search(b"# c\\\nn:am:\nm:\n", b"n"), missing(1)),
+        example("fields are no names", search(b"a:b:c|d:\n", b"d"), missing(1)),
+        example("empty names", search(b"||:", b"n"), missing(0)),
+        example("an empty database", search(b"", b"n"), missing(0)),
+        example("over two files", with_ends(search(b"a:b:\nb:", b"b"), &[4, 7]), found(2)),
+        example("not past the last end", with_ends(search(b"a:b:\nb:", b"b"), &[4]), missing(1)),
+        example("found in the first file", with_ends(search(b"m|n:n|m:", b"n"), &[4, 8]), found(2)),
+        example("each file joined", with_ends(search(b"# c\\\nn:", b"n"), &[4, 7]), found(1)),
+        example("no files", with_ends(search(b"n:", b"n"), &[]), missing(0)),
+        example("16 before 1 of a search", with_ends(search(b"n:", b""), &[3]), Refused(16)),
+        example("1 of a search", search(b"n:", b""), Refused(1)),
+        example("1 before 3 of a search", search(&large, b"a|b"), Refused(1)),
+        example("3 of a search", search(&large, b"n"), Refused(3)),
+        example("1,048,576 bytes", search(&large[1..], b"n"), missing(0)),
     ]
 }
 

@@ -19,7 +19,7 @@ pub use databases::many_flags;
 /// Case number `index` of the run with this seed.
 pub fn case(seed: u64, index: u64) -> Case {
     let mut random = Random::for_case(seed, index);
-    let operation = Operation::ALL[random.weighted(&[7, 9, 9, 14, 11, 11, 9, 9, 9, 14, 5, 4])];
+    let operation = Operation::ALL[random.weighted(&[7, 7, 9, 9, 14, 11, 11, 9, 9, 9, 14, 5, 4])];
     fill_in(&mut random, operation)
 }
 

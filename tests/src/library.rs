@@ -14,6 +14,14 @@ extern "C" {
         start: *mut u64,
         length: *mut u64,
     ) -> u32;
+    fn termcap_search(
+        db: *const u8,
+        db_len: usize,
+        name: *const u8,
+        name_len: usize,
+        found: *mut u64,
+        compared: *mut u64,
+    ) -> u32;
     fn termcap_flag(
         db: *const u8,
         db_len: usize,
@@ -94,6 +102,16 @@ extern "C" {
         name_len: usize,
         start: *mut u64,
         length: *mut u64,
+    ) -> u32;
+    fn termcap_search_files(
+        db: *const u8,
+        db_len: usize,
+        ends: *const usize,
+        ends_len: usize,
+        name: *const u8,
+        name_len: usize,
+        found: *mut u64,
+        compared: *mut u64,
     ) -> u32;
     fn termcap_flag_files(
         db: *const u8,
@@ -220,6 +238,32 @@ impl Subject for Library {
                     name.len(),
                     start,
                     length,
+                ),
+            }
+        }
+    }
+
+    fn search(&self, database: Files, name: &[u8], found: &mut u64, compared: &mut u64) -> u32 {
+        let db = database.bytes;
+        unsafe {
+            match database.ends {
+                None => termcap_search(
+                    pointer(db),
+                    db.len(),
+                    pointer(name),
+                    name.len(),
+                    found,
+                    compared,
+                ),
+                Some(ends) => termcap_search_files(
+                    pointer(db),
+                    db.len(),
+                    pointer(ends),
+                    ends.len(),
+                    pointer(name),
+                    name.len(),
+                    found,
+                    compared,
                 ),
             }
         }

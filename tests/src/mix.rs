@@ -83,6 +83,7 @@ mod tests {
     fn possible(operation: Operation) -> &'static [u32] {
         match operation {
             Operation::Show => &[ACCEPTED, 1, 3, 4, 16],
+            Operation::Search => &[ACCEPTED, 1, 3, 16],
             Operation::Flag | Operation::Number => &[ACCEPTED, ABSENT, 1, 2, 3, 4, 5, 6, 7, 8, 16],
             Operation::String => &[ACCEPTED, ABSENT, 1, 2, 3, 4, 5, 6, 7, 8, 9, 16],
             Operation::List | Operation::Flat => &[ACCEPTED, 1, 3, 4, 5, 6, 7, 8, 9, 16],

@@ -8,6 +8,7 @@
 pub mod batch;
 pub mod files;
 pub mod repair;
+pub mod search;
 
 pub use files::Files;
 use files::{find_from, Location};

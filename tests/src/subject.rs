@@ -10,6 +10,7 @@ pub const ABSENT: u32 = 255;
 
 pub trait Subject {
     fn show(&self, database: Files, name: &[u8], start: &mut u64, length: &mut u64) -> u32;
+    fn search(&self, database: Files, name: &[u8], found: &mut u64, compared: &mut u64) -> u32;
     fn flag(&self, database: Files, name: &[u8], id: &[u8], value: &mut u64) -> u32;
     fn number(&self, database: Files, name: &[u8], id: &[u8], value: &mut u64) -> u32;
     fn string(
@@ -92,6 +93,17 @@ impl Subject for Reference {
             Ok(part) => {
                 *start = part.start as u64;
                 *length = part.length as u64;
+                ACCEPTED
+            }
+            Err(refusal) => u32::from(refusal),
+        }
+    }
+
+    fn search(&self, database: Files, name: &[u8], found: &mut u64, compared: &mut u64) -> u32 {
+        match reference::search::search(database, name) {
+            Ok(search) => {
+                *found = u64::from(search.found);
+                *compared = search.compared as u64;
                 ACCEPTED
             }
             Err(refusal) => u32::from(refusal),

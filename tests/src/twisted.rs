@@ -4,7 +4,7 @@ use crate::case::Operation;
 use crate::reference::{Files, Position};
 use crate::subject::{Reference, Subject};
 
-/// What the reference answered. For Show the number is the length.
+/// What the reference answered. For Show the number is the length, for the search the count.
 pub struct Answer<'a> {
     pub operation: Operation,
     pub code: u32,
@@ -19,6 +19,11 @@ impl<F: Fn(Answer) -> u32> Subject for Twisted<F> {
     fn show(&self, database: Files, name: &[u8], start: &mut u64, length: &mut u64) -> u32 {
         let code = Reference.show(database, name, start, length);
         (self.0)(Answer { operation: Operation::Show, code, number: length, out: &mut [] })
+    }
+
+    fn search(&self, database: Files, name: &[u8], found: &mut u64, compared: &mut u64) -> u32 {
+        let code = Reference.search(database, name, found, compared);
+        (self.0)(Answer { operation: Operation::Search, code, number: compared, out: &mut [] })
     }
 
     fn flag(&self, database: Files, name: &[u8], id: &[u8], value: &mut u64) -> u32 {

@@ -40,7 +40,7 @@
 //!
 //! | Functions | Bytes at most |
 //! |---|---|
-//! | [`Database::show`] | 5,120 |
+//! | [`Database::show`], [`Database::search`] | 5,120 |
 //! | [`Database::flag`], [`Database::number`], [`Database::string`] | 9,216 |
 //! | [`Database::list`], [`Database::flat`] | 12,288 |
 //! | [`Database::batch`] | 71,680 |
@@ -161,6 +161,25 @@ impl<'a> Database<'a> {
         accepted(result, ())?;
         let start = size(start);
         Ok(&self.bytes[start..start + size(length)])
+    }
+
+    /// Whether a description has this name, and how many names a search that goes from name to name
+    /// compares: those of its length in lines that are not ignored, up to and with the first equal
+    /// one, or all if none is. It is for measurements, and slower than [`Database::show`], which
+    /// finds the same names. A name that is not found is no refusal here.
+    ///
+    /// ```
+    /// # use termcap_proved::{Database, Search};
+    /// let database = Database::new(b"# hall\noven|old oven:am:\nkiln|saw:co#20:\n");
+    /// assert_eq!(database.search("kiln"), Ok(Search { found: true, compared: 2 }));
+    /// assert_eq!(database.search("hall"), Ok(Search { found: false, compared: 2 }));
+    /// assert_eq!(database.search("press"), Ok(Search { found: false, compared: 0 }));
+    /// ```
+    pub fn search(&self, name: impl AsRef<[u8]>) -> Result<Search, Refusal> {
+        let (mut found, mut compared) = (0, 0);
+        let result =
+            self.ask(|db, ends| sys::search(db, ends, name.as_ref(), &mut found, &mut compared));
+        accepted(result, Search { found: found == 1, compared: size(compared) })
     }
 
     /// Whether the terminal has this flag.
@@ -373,6 +392,15 @@ impl Database<'_> {
         accepted(result, ())?;
         Ok(size(answers))
     }
+}
+
+/// What [`Database::search`] gives.
+#[derive(Clone, Copy, Debug, PartialEq, Eq)]
+pub struct Search {
+    /// Whether a description has the name.
+    pub found: bool,
+    /// How many names were compared with it, byte by byte.
+    pub compared: usize,
 }
 
 /// Repair: a file as sites have edited it, mended. The bytes are taken as a single file, whatever

@@ -14,6 +14,16 @@ mod c {
             start: *mut u64,
             length: *mut u64,
         ) -> u32;
+        pub fn termcap_search_files(
+            db: *const u8,
+            db_len: usize,
+            ends: *const usize,
+            ends_len: usize,
+            name: *const u8,
+            name_len: usize,
+            found: *mut u64,
+            compared: *mut u64,
+        ) -> u32;
         pub fn termcap_flag_files(
             db: *const u8,
             db_len: usize,
@@ -140,6 +150,22 @@ pub fn show(db: &[u8], ends: &[usize], name: &[u8], start: &mut u64, length: &mu
             name.len(),
             start,
             length,
+        )
+    }
+}
+
+pub fn search(db: &[u8], ends: &[usize], name: &[u8], found: &mut u64, compared: &mut u64) -> u32 {
+    // SAFETY: see above.
+    unsafe {
+        c::termcap_search_files(
+            db.as_ptr(),
+            db.len(),
+            ends.as_ptr(),
+            ends.len(),
+            name.as_ptr(),
+            name.len(),
+            found,
+            compared,
         )
     }
 }

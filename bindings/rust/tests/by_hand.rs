@@ -2,7 +2,7 @@
 
 use termcap_proved::{
     send, send_at, send_at_into, send_into, Answered, Database, Files, Kind, Line, NotARefusal,
-    Position, Question, Record, Refusal, FLAT_BYTES, RECORDS,
+    Position, Question, Record, Refusal, Search, FLAT_BYTES, RECORDS,
 };
 
 const CASE: &[u8] = br"N9|aaa:am:li#30:tc=aaa-unk:
@@ -19,6 +19,21 @@ const MARK: u8 = 0xA5;
 
 fn record(name: &[u8; 2], kind: Kind, place: u8, value: u32) -> Record {
     Record { name: *name, kind, place, value, file: 0 }
+}
+
+#[test]
+fn a_search_counts_the_names_of_its_length() {
+    let database = Database::new(CASE);
+    assert_eq!(database.search("aaa-nam"), Ok(Search { found: true, compared: 2 }));
+    assert_eq!(database.search("QZ"), Ok(Search { found: true, compared: 3 }));
+    assert_eq!(database.search("ZZ"), Ok(Search { found: false, compared: 3 }));
+    assert_eq!(database.search("press"), Ok(Search { found: false, compared: 0 }));
+    assert_eq!(database.search("a|b"), Err(Refusal::BadName));
+
+    let files = |ends| Database::with_ends(b"a:b:\nb:", ends).search("b");
+    assert_eq!(files(&[4, 7]), Ok(Search { found: true, compared: 2 }));
+    assert_eq!(files(&[4]), Ok(Search { found: false, compared: 1 }));
+    assert_eq!(files(&[4, 3]), Err(Refusal::BadEnds));
 }
 
 #[test]

@@ -5,6 +5,7 @@ pub mod Winning
 pub mod Demand3
 pub mod OneFile
 pub mod UnreadBytes
+pub mod Search
 pub mod Limits
 pub mod Room
 pub mod SoundWalks

@@ -10,15 +10,19 @@ use lib.ListN.{length, take, drop, getD}
 use lib.Seq.{take-take}
 use Rattle.spec.specs.Choice.{pick, between}
 use Rattle.spec.specs.Refusals.{goodName, tooLarge}
+use Rattle.spec.specs.Lists.{among}
 use Rattle.spec.specs.Lines.{extent}
 use Rattle.spec.specs.Files.{files, rising, goodEnds, cutAt, contents, fileStart, fileAt, findFrom}
 use Rattle.spec.specs.Chain.{Terminal, refused, resolve}
 use Rattle.spec.specs.Questions.{terminalOf, terminalFor, answerFor, stringFor, shown, showAnswer, shownBytes, flagAnswer, numberAnswer, stringOutcome}
+use Rattle.spec.specs.Search.{allNames, compared, told, searchAnswer}
 use Rattle.spec.specs.Listing.{listFor, flatFor, listOutcome, flatOutcome}
 use Rattle.spec.specs.declared.Located.{Located}
 use Rattle.spec.specs.declared.Located.the-variants.{At, Nothing}
 use Rattle.spec.specs.declared.Kind.the-variants.{Flag, Number}
 use Rattle.spec.specs.declared.Refusal.the-variants.{BadName, DatabaseTooLarge, BadEnds}
+use Rattle.spec.specs.declared.Searched.{Searched}
+use Rattle.spec.specs.declared.Searched.the-variants.{Refused as NotSearched}
 use Rattle.spec.specs.declared.Shown.{Shown}
 use Rattle.spec.specs.declared.Shown.the-variants.{Refused as NotShown}
 use Rattle.spec.proofs.Tests.{both-true}
@@ -105,6 +109,19 @@ module _ (a b ends : List ℕ) (long : length a ≡ length b) (agree : take (las
   unfolding terminalFor
   asked-same name id = rw (← good-same, terminal-same name)
 
+  search-same : (name : List ℕ) → searchAnswer (files a ends) name ≡ searchAnswer (files b ends) name
+  unfolding searchAnswer
+  search-same name = rw (← good-same, large-same) (go (goodEnds (files a ends)) refl)
+    where
+      in-order : List (List ℕ) → Searched
+      in-order ns = pick (goodName name) (pick (tooLarge b) (NotSearched DatabaseTooLarge) (told (among name ns) (compared name ns))) (NotSearched BadName)
+
+      go : (x : Bool) → goodEnds (files a ends) ≡ x
+          → pick x (in-order (allNames (contents (files a ends)))) (NotSearched BadEnds)
+          ≡ pick x (in-order (allNames (contents (files b ends)))) (NotSearched BadEnds)
+      go true g = rw (contents-same g)
+      go false g = refl
+
   -- ---- Show
 
   start-same : (k : ℕ) → fileStart (files a ends) k ≡ fileStart (files b ends) k
@@ -154,6 +171,7 @@ unfolding flagAnswer numberAnswer stringOutcome listOutcome flatOutcome
 unread a b ends long agree = record {
   show = show-same a b ends long agree;
   shown-bytes = λ name. bytes-same a b ends long agree name ∙ ap (shownBytes b) (show-same a b ends long agree name);
+  search = search-same a b ends long agree;
   flag = λ name id. ap (answerFor id Flag) (asked-same a b ends long agree name id);
   number = λ name id. ap (answerFor id Number) (asked-same a b ends long agree name id);
   string = λ name id buffer. ap (λ (t : Terminal). stringFor id t buffer) (asked-same a b ends long agree name id);

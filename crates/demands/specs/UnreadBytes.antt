@@ -5,6 +5,7 @@ use mathlib.Core.List.{List, [], _∷_}
 use lib.ListN.{length, take}
 use Rattle.spec.specs.Files.{Files, files}
 use Rattle.spec.specs.Questions.{showAnswer, shownBytes, flagAnswer, numberAnswer, stringOutcome}
+use Rattle.spec.specs.Search.{searchAnswer}
 use Rattle.spec.specs.Listing.{listOutcome, flatOutcome}
 
 -- The last end, and 0 where there is none.
@@ -17,6 +18,7 @@ lastEnd (e ∷ f ∷ es) = lastEnd (f ∷ es)
 pub record SameAnswers (db other : Files) : Type 0 where
   pub show : (name : List ℕ) → showAnswer db name ≡ showAnswer other name
   pub shown-bytes : (name : List ℕ) → shownBytes (db .bytes) (showAnswer db name) ≡ shownBytes (other .bytes) (showAnswer other name)
+  pub search : (name : List ℕ) → searchAnswer db name ≡ searchAnswer other name
   pub flag : (name id : List ℕ) → flagAnswer db name id ≡ flagAnswer other name id
   pub number : (name id : List ℕ) → numberAnswer db name id ≡ numberAnswer other name id
   pub string : (name id buffer : List ℕ) → stringOutcome db name id buffer ≡ stringOutcome other name id buffer

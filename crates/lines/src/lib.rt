@@ -73,7 +73,7 @@ pub fn is_ignored(s: &[u8], at: usize) -> bool
 }
 
 // Whether the first name of the line at a place has `count` bytes.
-fn has_length(s: &[u8], at: usize, count: usize) -> bool
+pub fn has_length(s: &[u8], at: usize, count: usize) -> bool
     ensures { λ r. ⌜ r ≡ eqb (length (firstName (lineText (textAt (now (s .entry)) at)))) count ⌝ }
 {
     let mut i = at;
@@ -96,7 +96,7 @@ fn has_length(s: &[u8], at: usize, count: usize) -> bool
 }
 
 // Whether the first name of the line at a place is `name`, byte by byte.
-fn is_equal(s: &[u8], at: usize, name: &[u8]) -> bool
+pub fn is_equal(s: &[u8], at: usize, name: &[u8]) -> bool
     ensures { λ r. ⌜ r ≡ same (now (name .entry)) (firstName (lineText (textAt (now (s .entry)) at))) ⌝ }
 {
     let mut i = at;

@@ -1,8 +1,8 @@
 // Asks the cases of document 02's requests from standard input, one to a line, and writes for each its line's number, the answer, and the
 // buffers afterwards in decimal.
 //
-// A line is `repair`, database, room and room for the records; `batch`, database, name, questions and room; or `part` (what Show shows),
-// database, ends and name; `flag` with an id after these; `list` with a room after them; with a bar after each but the last. Ends are bytes,
+// A line is `repair`, database, room and room for the records; `batch`, database, name, questions and room; or `part` (what Show shows) or
+// `search`, database, ends and name; `flag` with an id after these; `list` with a room after them; with a bar after each but the last. Ends are bytes,
 // one for each end; a batch is about one file. Any other line is a comment. In a text
 // a backslash and two hexadecimal digits stand for a byte. A buffer has as many bytes as its room says, at most 64, and holds 255 in each
 // before the call.
@@ -16,6 +16,7 @@ use case_lines::text;
 use repair::repair;
 use spec::Answer;
 use spec::Repaired;
+use spec::Searched;
 use spec::Shown;
 ghost use Rattle.io.specs.Counts.{Counts};
 
@@ -56,7 +57,7 @@ fn case_repair(line: &[u8], out: &mut [u8], records: &mut [u8]) {
     io::write_all(1, b"\n");
 }
 
-// ---- Ask 5: several files
+// ---- Asks 5 and 6: several files, and the search that counts
 
 fn show_part(answer: Shown) {
     match answer {
@@ -81,6 +82,21 @@ fn show_flag(answer: Answer) {
             io::write_all(1, b" absent");
         }
         Answer::Refused(r) => show_refusal(r.number()),
+    }
+    io::write_all(1, b"\n");
+}
+
+fn show_searched(answer: Searched) {
+    match answer {
+        Searched::Found(n) => {
+            io::write_all(1, b" found ");
+            io::print_decimal(1, n as u64);
+        }
+        Searched::Missing(n) => {
+            io::write_all(1, b" missing ");
+            io::print_decimal(1, n as u64);
+        }
+        Searched::Refused(r) => show_refusal(r.number()),
     }
     io::write_all(1, b"\n");
 }
@@ -111,6 +127,7 @@ fn ask_files(operation: u8, line: &[u8], db: &[u8], ends: &[usize], out: &mut [u
     let m = text(line, 4, &mut id);
     match operation {
         b'p' => show_part(show::show_part(db, ends, &name[..k])),
+        b's' => show_searched(name_count::search(db, ends, &name[..k])),
         b'f' => show_flag(questions::flag(db, ends, &name[..k], &id[..m])),
         _ => {
             let answer = listing::list(db, ends, &name[..k], out);
@@ -131,7 +148,7 @@ fn case_files(operation: u8, line: &[u8], out: &mut [u8]) {
 
 fn is_of_files(b: u8) -> bool {
     match b {
-        b'p' | b'f' | b'l' => true,
+        b'p' | b's' | b'f' | b'l' => true,
         _ => false,
     }
 }

@@ -35,3 +35,4 @@ pub mod Chunks
 pub mod KeptFields
 pub mod NoLonger
 pub mod RecordRoom
+pub mod CountedNames

@@ -4,6 +4,7 @@ use mathlib.Core.Path.{refl}
 use Rattle.spec.specs.Examples.{Marked}
 use Rattle.spec.specs.Rulings.{Ruled}
 use Rattle.spec.specs.FileRulings.{FilesRuled}
+use Rattle.spec.specs.SearchRulings.{SearchRuled}
 use Rattle.spec.proofs.Computing.{computing}
 
 pub marked-examples : Marked
@@ -17,3 +18,7 @@ rulings = (refl, refl, refl, refl, refl, refl)
 pub file-rulings : FilesRuled
 unfolding computing
 file-rulings = refl
+
+pub search-rulings : SearchRuled
+unfolding computing
+search-rulings = refl

@@ -1,14 +1,14 @@
 -- Lines as texts: the line that a search finds, and the line of a raw text that has no newline in it.
 -- Assumes nothing.
 use Prim.Native.Nat.{ℕ, zero, suc, _+_}
-use mathlib.Core.Path.{_≡_, refl, _∙_, ap}
+use mathlib.Core.Path.{sym, _≡_, refl, _∙_, ap}
 use mathlib.Core.Bool.{Bool, true, false, not}
 use mathlib.Core.List.{List, [], _∷_, _++_}
 use native.Mathlib.Numerals.{add-one}
 use native.Mathlib.Omega.{arith}
 use borrow.Author.Tests.{eq-eqb, ne-eqb, eqb-true, eqb-false}
 use lib.Dec.{eqb}
-use lib.ListN.{drop}
+use lib.ListN.{length, drop}
 use lib.Seq.{drop-drop}
 use Rattle.spec.proofs.TextSteps as Laws
 use Rattle.spec.specs.declared.Found.the-variants.{At}
@@ -147,6 +147,14 @@ equal-same (a ∷ x) (b ∷ y) e =
     let h : a ≡ b = cc in
     let t : x ≡ y = cc in
     rw (eq-eqb a b h, equal-same x y t)
+
+-- A name of another length is another name.
+pub other-length : (x y : List ℕ) → (length y ≡ length x → ⊥) → same x y ≡ false
+other-length x y h = go (same x y) refl
+  where
+    go : (z : Bool) → same x y ≡ z → z ≡ false
+    go true e = absurd (h (sym (ap length (same-equal x y e))))
+    go false e = refl
 
 -- ---- a part of the database: a line's text does not depend on where its bytes stand
 

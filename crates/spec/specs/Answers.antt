@@ -13,6 +13,8 @@ use Rattle.spec.specs.declared.Written.{Written}
 use Rattle.spec.specs.declared.Written.the-variants.{Count, Refused as NotWritten}
 use Rattle.spec.specs.declared.Shown.{Shown}
 use Rattle.spec.specs.declared.Shown.the-variants.{Part, Refused as NotShown}
+use Rattle.spec.specs.declared.Searched.{Searched}
+use Rattle.spec.specs.declared.Searched.the-variants.{Found, Missing, Refused as NotSearched}
 use Rattle.spec.specs.declared.Repaired.{Repaired}
 use Rattle.spec.specs.declared.Repaired.the-variants.{Counts, Refused as NotRepaired}
 
@@ -55,6 +57,12 @@ writtenReport (NotWritten r) = refusedReport r
 abbrev pub shownReport : Shown → Report
 shownReport (Part from to) = record { refusal = 0; values = from ∷ to ∷ [] }
 shownReport (NotShown r) = refusedReport r
+
+-- Of the search that counts: 1 if the name is found, else 0; and how many names had bytes compared.
+abbrev pub searchedReport : Searched → Report
+searchedReport (Found n) = record { refusal = 0; values = 1 ∷ n ∷ [] }
+searchedReport (Missing n) = record { refusal = 0; values = 0 ∷ n ∷ [] }
+searchedReport (NotSearched r) = refusedReport r
 
 -- Of Repair: the bytes of the mended database, and the number of records.
 abbrev pub repairedReport : Repaired → Report

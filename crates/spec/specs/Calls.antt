@@ -10,6 +10,7 @@ use Rattle.spec.specs.Answers.{Outcome, keeping, Report, answerReport, w
 use Rattle.spec.specs.Questions.{showReport, flagReport, numberReport, stringOutcome}
 use Rattle.spec.specs.Listing.{listOutcome, flatOutcome}
 use Rattle.spec.specs.Batch.{batchOutcome}
+use Rattle.spec.specs.Search.{searchReport}
 use Rattle.spec.specs.Repair.{RepairOutcome, flattened, repairOutcome}
 use Rattle.spec.specs.Sending.{sendOutcome, sendAtOutcome}
 
@@ -35,6 +36,7 @@ pub data Call : Type 0 where
   listIn : Chars → List ℕ → Chars → ℕ → Call
   flatIn : Chars → List ℕ → Chars → ℕ → Call
   batchIn : Chars → List ℕ → Chars → List ℕ → ℕ → Call
+  searchIn : Chars → List ℕ → Chars → Call
   repair : Chars → ℕ → ℕ → Call
   send : List ℕ → ℕ → ℕ → ℕ → Call
   sendAt : List ℕ → ℕ → ℕ → List ℕ → List ℕ → ℕ → Call
@@ -62,6 +64,7 @@ computed (flagIn db ends name id) = keeping (flagReport (files (ascii db) ends) 
 computed (listIn db ends name room) = reported writtenReport (listOutcome (files (ascii db) ends) (ascii name) (lent room))
 computed (flatIn db ends name room) = reported writtenReport (flatOutcome (files (ascii db) ends) (ascii name) (lent room))
 computed (batchIn db ends name questions room) = reported writtenReport (batchOutcome (files (ascii db) ends) (ascii name) questions (lent room))
+computed (searchIn db ends name) = keeping (searchReport (files (ascii db) ends) (ascii name)) []
 computed (repair db room more) = bothBuffers (repairOutcome (ascii db) (lent room) (lent more))
 computed (send cmd lines speed room) = reported writtenReport (sendOutcome cmd lines speed 0 (lent room))
 computed (sendAt cmd row column back up room) = reported writtenReport (sendAtOutcome cmd row column back up 1 0 0 (lent room))

@@ -12,6 +12,7 @@ pub mod Answers
 pub mod Questions
 pub mod Listing
 pub mod Batch
+pub mod Search
 pub mod Repair
 pub mod Values
 pub mod Sequences
@@ -22,3 +23,4 @@ pub mod Calls
 pub mod Examples
 pub mod Rulings
 pub mod FileRulings
+pub mod SearchRulings

@@ -127,6 +127,13 @@ pub enum Shown {
     Refused(Refusal),
 }
 
+// The answer of the search that counts: the name is found, or is not; and how many names had bytes compared.
+pub enum Searched {
+    Found(usize),
+    Missing(usize),
+    Refused(Refusal),
+}
+
 // The answer of a search for a line in one file: the place in it where the line starts.
 pub enum Found {
     At(usize),

@@ -35,6 +35,6 @@ storedValue p old = firstOr (p .values) old
 abbrev pub storedLength : Report → ℕ → ℕ
 storedLength p old = lengthOr (p .values) old
 
--- The number of a repair's records.
+-- The number of a repair's records, or of the names that a search compared.
 abbrev pub storedSecond : Report → ℕ → ℕ
 storedSecond p old = secondOr (p .values) old

@@ -3,6 +3,7 @@
 pub use batch::batch;
 pub use listing::flat;
 pub use listing::list;
+pub use name_count::search;
 pub use questions::flag;
 pub use questions::number;
 pub use questions::string;
@@ -20,12 +21,14 @@ pub use spec::Answer;
 pub use spec::Kind;
 pub use spec::Refusal;
 pub use spec::Repaired;
+pub use spec::Searched;
 pub use spec::Shown;
 pub use spec::Written;
 ghost use mathlib.Core.Path.{_≡_};
 ghost use Rattle.spec.specs.Files.{files, alone};
 ghost use Rattle.spec.specs.Answers.{answerReport, writtenReport};
 ghost use Rattle.spec.specs.Questions.{showReport, flagReport, numberReport, stringOutcome, stringReport};
+ghost use Rattle.spec.specs.Search.{searchReport};
 ghost use Rattle.spec.specs.Listing.{listOutcome, listReport, flatOutcome, flatReport};
 ghost use Rattle.spec.specs.Batch.{batchOutcome, batchReport};
 ghost use Rattle.spec.specs.Repair.{repairOutcome, repairReport};
@@ -92,6 +95,44 @@ pub extern "C" fn termcap_show(db: &[u8], name: &[u8], start: &mut u64, length: 
 {
     let ends = [db.len()];
     termcap_show_files(db, &ends, name, start, length)
+}
+
+// "Whether an asked name is found and how many names had bytes compared": a name that is not found is no refusal, and 0 is stored.
+#[no_mangle]
+pub extern "C" fn termcap_search_files(
+    db: &[u8],
+    ends: &[usize],
+    name: &[u8],
+    found: &mut u64,
+    compared: &mut u64,
+) -> u32
+    ensures { λ r. ⌜ (r ≡ resultOf (searchReport (files (now (db .entry)) (now (ends .entry))) (now (name .entry))))
+        × (now (found .exit) ≡ storedValue (searchReport (files (now (db .entry)) (now (ends .entry))) (now (name .entry))) (now (found .entry)))
+        × (now (compared .exit) ≡ storedSecond (searchReport (files (now (db .entry)) (now (ends .entry))) (now (name .entry))) (now (compared .entry))) ⌝ }
+{
+    match search(db, ends, name) {
+        Searched::Found(n) => {
+            *found = 1;
+            *compared = n as u64;
+            0
+        }
+        Searched::Missing(n) => {
+            *found = 0;
+            *compared = n as u64;
+            0
+        }
+        Searched::Refused(r) => r.number() as u32,
+    }
+}
+
+#[no_mangle]
+pub extern "C" fn termcap_search(db: &[u8], name: &[u8], found: &mut u64, compared: &mut u64) -> u32
+    ensures { λ r. ⌜ (r ≡ resultOf (searchReport (alone (now (db .entry))) (now (name .entry))))
+        × (now (found .exit) ≡ storedValue (searchReport (alone (now (db .entry))) (now (name .entry))) (now (found .entry)))
+        × (now (compared .exit) ≡ storedSecond (searchReport (alone (now (db .entry))) (now (name .entry))) (now (compared .entry))) ⌝ }
+{
+    let ends = [db.len()];
+    termcap_search_files(db, &ends, name, found, compared)
 }
 
 #[no_mangle]

@@ -25,8 +25,8 @@ pub fn fill_in(random: &mut Random, case: &mut Case) {
     let huge_share = match case.operation {
         // The properties take many calls, which would be slow on a huge database.
         Operation::Properties => 0,
-        // Few of the cases are of Show, and it has few refusals.
-        Operation::Show => 20,
+        // Few of the cases are of these, and they have few refusals.
+        Operation::Show | Operation::Search => 20,
         _ => 8,
     };
     let made = database(random, huge_share);
