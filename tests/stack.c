@@ -12,7 +12,7 @@
 #include "termcap_proved.h"
 
 enum { STACK = 1 << 20, PAINT = 0xA5 };
-enum { SHOW, SEARCH, FLAG, NUMBER, STRING, LIST, FLAT, BATCH, REPAIR, SEND, SEND_AT, CALLS };
+enum { SHOW, SEARCH, FLAG, NUMBER, STRING, LIST, FLAT, BATCH, REPAIR, SEND, SEND_AT, FILL, PAD, CALLS };
 enum { NONE = CALLS };
 
 static uint8_t stack[STACK] __attribute__((aligned(4096)));
@@ -20,14 +20,15 @@ static uint8_t db[1048576], mended[1048576], out[1 << 17], command[16384];
 static size_t db_len, command_len;
 static const char *name = "";
 
-static const char *const calls[CALLS] = {"show", "search", "flag",   "number", "string", "list",
-                                         "flat", "batch",  "repair", "send",   "send_at"};
+static const char *const calls[CALLS] = {"show",   "search", "flag", "number",  "string", "list", "flat",
+                                         "batch",  "repair", "send", "send_at", "fill",   "pad"};
 static const size_t most[CALLS] = {TERMCAP_STACK_SHOW,     TERMCAP_STACK_SHOW,
                                    TERMCAP_STACK_QUESTION, TERMCAP_STACK_QUESTION,
                                    TERMCAP_STACK_QUESTION, TERMCAP_STACK_LIST,
                                    TERMCAP_STACK_LIST,     TERMCAP_STACK_BATCH,
-                                   TERMCAP_STACK_REPAIR,
-                                   TERMCAP_STACK_SEND,     TERMCAP_STACK_SEND};
+                                   TERMCAP_STACK_REPAIR,   TERMCAP_STACK_SEND,
+                                   TERMCAP_STACK_SEND,     TERMCAP_STACK_SEND,
+                                   TERMCAP_STACK_SEND};
 static size_t measured[CALLS];
 
 static void *call(void *which)
@@ -37,7 +38,7 @@ static void *call(void *which)
     /* Seven empty files, and all of the database as the last one. */
     const size_t ends[TERMCAP_FILES] = {0, 0, 0, 0, 0, 0, 0, db_len};
     size_t n_len = strlen(name);
-    uint64_t x, y;
+    uint64_t x, y, z;
     switch (*(int *)which) {
     case SHOW:
         termcap_show(db, db_len, n, n_len, &x, &y);
@@ -79,7 +80,14 @@ static void *call(void *which)
     case SEND_AT:
         termcap_send_at(command, command_len, 9, 10, n, n_len, n, n_len, 1, 9600, 0, out, sizeof out,
                         &x);
+        /* Lines that are out of range: the body is measured only. */
+        termcap_send_at(command, command_len, 9, 10, n, n_len, n, n_len, 0, 9600, 0, out, sizeof out,
+                        &x);
         break;
+    case FILL:
+        termcap_fill(command, command_len, 9, 10, n, n_len, n, n_len, out, sizeof out, &x, &y, &z);
+        break;
+    case PAD: termcap_pad(99999, 1, command, command_len, 1, 9600, 0, out, sizeof out, &x); break;
     }
     return NULL;
 }

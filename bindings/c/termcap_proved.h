@@ -24,8 +24,9 @@
  * Order of refusals: 16, 1, 2, 3, then the walk (4 to 8), then 9. At each step of the walk: find the line
  * (4 for the first, else 5), then 7, then the 33rd description (8), then 6, then the size (8), then
  * the next link. A batch: 16, 1, 3, 15, 9; what the walk refuses stands in its answers. Repair: 3, 14, 9.
- * Send and Send at: 12 for the inputs, 13, then faults from left to right through the body (10 to
- * 12), then 9.
+ * Send: 13, 12, 9. Send at: 12 for row and column, 13, then faults from left to right through the body
+ * (10 to 12), then 12 for lines and speed, then 9. Its first half: the same without lines and speed; its
+ * second half: 12, 9.
  *
  * Threads. The library has no state and allocates nothing: a function may be called from any thread,
  * and from several at once, if their buffers are apart.
@@ -112,7 +113,7 @@ extern "C" {
 
 /* The stack a call needs, in bytes, with one file or several: of termcap_show and termcap_search; of
  * termcap_flag, termcap_number and termcap_string; of termcap_list and termcap_flat; of termcap_batch; of
- * termcap_repair; of termcap_send and termcap_send_at. */
+ * termcap_repair; of termcap_send, termcap_send_at, termcap_fill and termcap_pad. */
 #define TERMCAP_STACK_SHOW 5120u
 #define TERMCAP_STACK_QUESTION 9216u
 #define TERMCAP_STACK_LIST 12288u
@@ -274,7 +275,7 @@ uint32_t termcap_repair(const uint8_t *db, size_t db_len, uint8_t *out, size_t o
  * appended, rounded up.
  *
  * TERMCAP_OK: the first *count bytes of `out` are the body, then the pads.
- * Refusals: 9, 12 (`line_count` outside 1..1,000 or `speed` over 115,200), 13.
+ * Refusals: 13, 12 (`line_count` outside 1..1,000 or `speed` over 115,200), 9, in this order.
  */
 uint32_t termcap_send(const uint8_t *command, size_t command_len, uint64_t line_count,
                       uint64_t speed, uint8_t pad, uint8_t *out, size_t out_len, uint64_t *count);
@@ -297,6 +298,46 @@ uint32_t termcap_send_at(const uint8_t *command, size_t command_len, uint64_t ro
                          const uint8_t *back, size_t back_len, const uint8_t *up, size_t up_len,
                          uint64_t line_count, uint64_t speed, uint8_t pad, uint8_t *out,
                          size_t out_len, uint64_t *count);
+
+/* Room that is always enough for termcap_fill: each of the two parameters is written once, from a
+ * sequence of at least two bytes, as at most five digits or as a byte with at most two compensations.
+ * This one is not among the proved statements. */
+#define TERMCAP_FILL_BYTES(command_len, back_len, up_len) \
+    ((size_t)(command_len) + 2 * ((size_t)(back_len) + (size_t)(up_len)) + 8)
+
+/* The longest delay that termcap_pad takes, in tenths of a millisecond; termcap_fill gives none that
+ * is longer. */
+#define TERMCAP_LONGEST_DELAY 99999u
+
+/*
+ * Send at in two halves, for one position that goes out over lines of different speeds. In a row they
+ * are termcap_send_at: they give the same result and the same bytes, if there is room between them.
+ * This is proved (crates/demands/specs/Halves.antt).
+ *
+ * Fill, the first half: the position is filled in, as termcap_send_at does it, and nothing is padded.
+ *
+ * TERMCAP_OK: the first *count bytes of `out` are the body and the compensations; *delay is what the
+ * padding prefix says, in tenths of a millisecond, and *star is 1 if it was starred, else 0. The delay
+ * isn't multiplied yet.
+ * Refusals: 9 to 13.
+ */
+uint32_t termcap_fill(const uint8_t *command, size_t command_len, uint64_t row, uint64_t column,
+                      const uint8_t *back, size_t back_len, const uint8_t *up, size_t up_len,
+                      uint8_t *out, size_t out_len, uint64_t *delay, uint64_t *star,
+                      uint64_t *count);
+
+/*
+ * Pad, the second half, for each line: `bytes` as they stand, without reading a padding prefix in them,
+ * and the pads for the delay. Any `star` but 0 is one. `bytes` are what termcap_fill wrote; `out` must
+ * not overlap them.
+ *
+ * TERMCAP_OK: the first *count bytes of `out` are `bytes`, then the pads.
+ * Refusals: 12 (`delay` over TERMCAP_LONGEST_DELAY, `line_count` outside 1..1,000 or `speed` over
+ * 115,200), 9.
+ */
+uint32_t termcap_pad(uint64_t delay, uint64_t star, const uint8_t *bytes, size_t bytes_len,
+                     uint64_t line_count, uint64_t speed, uint8_t pad, uint8_t *out, size_t out_len,
+                     uint64_t *count);
 
 #ifdef __cplusplus
 }

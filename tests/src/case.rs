@@ -2,6 +2,7 @@
 
 use std::fmt;
 
+use crate::halves;
 use crate::properties;
 use crate::random::Random;
 use crate::reference::batch::ANSWER_BYTES;
@@ -28,10 +29,14 @@ pub enum Operation {
     Properties,
     /// The promises of the repair on real calls.
     RepairPromises,
+    Fill,
+    Pad,
+    /// On real calls: Send at equals its two halves in a row.
+    Halves,
 }
 
 impl Operation {
-    pub const ALL: [Operation; 13] = [
+    pub const ALL: [Operation; 16] = [
         Operation::Show,
         Operation::Search,
         Operation::Flag,
@@ -45,10 +50,21 @@ impl Operation {
         Operation::SendAt,
         Operation::Properties,
         Operation::RepairPromises,
+        Operation::Fill,
+        Operation::Pad,
+        Operation::Halves,
     ];
 
     pub fn sends(self) -> bool {
-        matches!(self, Operation::Send | Operation::SendAt)
+        self == Operation::Fill || self.takes_speed()
+    }
+
+    pub fn takes_position(self) -> bool {
+        matches!(self, Operation::SendAt | Operation::Fill | Operation::Halves)
+    }
+
+    pub fn takes_speed(self) -> bool {
+        matches!(self, Operation::Send | Operation::SendAt | Operation::Pad | Operation::Halves)
     }
 
     pub fn repairs(self) -> bool {
@@ -65,6 +81,14 @@ impl Operation {
         !matches!(self, Show | Search | Flag | Number)
     }
 
+    /// Which of the numbers counts the bytes, or the records, that it writes.
+    fn counted(self) -> usize {
+        match self {
+            Operation::Fill => 2,
+            _ => 0,
+        }
+    }
+
     /// The names of the numbers it reports.
     fn number_names(self) -> &'static [&'static str] {
         use Operation::*;
@@ -75,6 +99,7 @@ impl Operation {
             List => &["records"],
             Batch => &["answers"],
             Repair => &["count", "removed"],
+            Fill => &["delay", "star", "count"],
             _ => &["count"],
         }
     }
@@ -91,6 +116,7 @@ pub struct Case {
     pub id: Vec<u8>,
     /// The questions of a batch, four bytes each.
     pub questions: Vec<u8>,
+    /// For Pad: the finished bytes.
     pub command: Vec<u8>,
     pub row: u64,
     pub column: u64,
@@ -103,6 +129,9 @@ pub struct Case {
     pub room: u64,
     /// Bytes of the second buffer of a repair, for its records.
     pub records_room: u64,
+    /// Of Pad: the delay in tenths, and the star, which any number but 0 is.
+    pub delay: u64,
+    pub star: u64,
     /// Seed of what stands in the buffers, the guards and the numbers before the call.
     pub fill: u64,
 }
@@ -117,7 +146,7 @@ impl Case {
 #[derive(Clone, Debug, PartialEq, Eq)]
 pub struct Observed {
     pub code: u32,
-    pub numbers: [u64; 2],
+    pub numbers: [u64; 3],
     pub block: Vec<u8>,
     pub records_block: Vec<u8>,
 }
@@ -149,7 +178,7 @@ pub fn before(case: &Case) -> Observed {
     random.fill(&mut block);
     let mut records_block = vec![0; GUARD + case.records_room as usize + GUARD];
     random.fill(&mut records_block);
-    let numbers = [random.number(), random.number()];
+    let numbers = [random.number(), random.number(), random.number()];
     Observed { code: u32::MAX, numbers, block, records_block }
 }
 
@@ -160,7 +189,7 @@ pub fn observe(case: &Case, subject: &impl Subject) -> Observed {
     let out = &mut seen.block[GUARD..end];
     let records_end = seen.records_block.len() - GUARD;
     let records = &mut seen.records_block[GUARD..records_end];
-    let [first, second] = &mut seen.numbers;
+    let [first, second, third] = &mut seen.numbers;
     let (database, name, id) = (case.files(), &case.name[..], &case.id[..]);
     let position = Position { row: case.row, column: case.column, back: &case.back, up: &case.up };
     seen.code = match case.operation {
@@ -178,8 +207,13 @@ pub fn observe(case: &Case, subject: &impl Subject) -> Observed {
         Operation::Send => {
             subject.send(&case.command, case.lines, case.speed, case.pad, out, first)
         }
-        Operation::SendAt => {
+        Operation::SendAt | Operation::Halves => {
             subject.send_at(&case.command, position, case.lines, case.speed, case.pad, out, first)
+        }
+        Operation::Fill => subject.fill(&case.command, position, out, first, second, third),
+        Operation::Pad => {
+            let (delay, star, bytes) = (case.delay, case.star, &case.command);
+            subject.pad(delay, star, bytes, case.lines, case.speed, case.pad, out, first)
         }
     };
     seen
@@ -192,6 +226,8 @@ pub fn disagreement(case: &Case, subject: &impl Subject) -> Option<String> {
         properties::broken(case, subject)
     } else if case.operation == Operation::RepairPromises {
         repair_promises::broken(case, subject)
+    } else if case.operation == Operation::Halves {
+        halves::broken(case, subject)
     } else {
         let expected = observe(&kept, &Reference);
         let seen = observe(case, subject);
@@ -238,7 +274,8 @@ pub fn describe(case: &Case, observed: &Observed) -> String {
             Operation::Batch => ANSWER_BYTES as u64,
             _ => 1,
         };
-        let bytes = observed.reported(observed.numbers[0].saturating_mul(each));
+        let count = observed.numbers[case.operation.counted()];
+        let bytes = observed.reported(count.saturating_mul(each));
         text += &format!(", bytes {}", Bytes(&bytes[..bytes.len().min(MOST_SHOWN)]));
         if bytes.len() > MOST_SHOWN {
             text += &format!(" and {} more", bytes.len() - MOST_SHOWN);
@@ -330,15 +367,21 @@ impl fmt::Display for Case {
         writeln!(formatter, "    operation: Operation::{:?},", self.operation)?;
         if self.operation.sends() {
             writeln!(formatter, "    command: {},", Bytes(&self.command))?;
-            if self.operation == Operation::SendAt {
+            if self.operation.takes_position() {
                 writeln!(formatter, "    row: {},", self.row)?;
                 writeln!(formatter, "    column: {},", self.column)?;
                 writeln!(formatter, "    back: {},", Bytes(&self.back))?;
                 writeln!(formatter, "    up: {},", Bytes(&self.up))?;
             }
-            writeln!(formatter, "    lines: {},", self.lines)?;
-            writeln!(formatter, "    speed: {},", self.speed)?;
-            writeln!(formatter, "    pad: {},", self.pad)?;
+            if self.operation == Operation::Pad {
+                writeln!(formatter, "    delay: {},", self.delay)?;
+                writeln!(formatter, "    star: {},", self.star)?;
+            }
+            if self.operation.takes_speed() {
+                writeln!(formatter, "    lines: {},", self.lines)?;
+                writeln!(formatter, "    speed: {},", self.speed)?;
+                writeln!(formatter, "    pad: {},", self.pad)?;
+            }
         } else {
             writeln!(formatter, "    database: {},", Bytes(&self.database))?;
             if let Some(ends) = &self.ends {
@@ -441,8 +484,8 @@ mod tests {
             answer.code
         });
         let case = (0..)
-            .map(|index| generate::case(9, index))
-            .filter(|case| case.operation == Operation::Flag && case.database.len() > 60)
+            .map(|index| generate::case_of(Operation::Flag, 1, index))
+            .filter(|case| case.database.len() > 60)
             .find(|case| disagreement(case, &subject).is_some())
             .expect("flags are often present");
         let fails = |case: &Case| disagreement(case, &subject).is_some();

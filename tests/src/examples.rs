@@ -32,10 +32,12 @@ pub enum Expected {
     Records(Vec<u8>),
     /// Status, refusal number and value of each answer of a batch.
     Answers(Vec<(u8, u8, u32)>),
+    /// The delay and the star, and the finished bytes with their count.
+    Finished(u64, u64, Vec<u8>),
     /// The mended database, and line, place, reason and count of each removal.
     Mended(Vec<u8>, Vec<[u32; 4]>),
 }
-use Expected::{Absent, Answers, Bytes, Counted, Mended, Records, Refused, Shown, Value};
+use Expected::{Absent, Answers, Bytes, Counted, Finished, Mended, Records, Refused, Shown, Value};
 
 /// What is wrong with the subject's answer, in words; nothing if it is the one written here.
 pub fn wrong(example: &Example, subject: &impl Subject) -> Option<String> {
@@ -58,6 +60,7 @@ pub fn wrong(example: &Example, subject: &impl Subject) -> Option<String> {
         Bytes(bytes) => (&[bytes.len() as u64], bytes),
         Records(bytes) => (&[bytes.len() as u64 / 12], bytes),
         Answers(each) => (&[each.len() as u64], &answers),
+        Finished(delay, star, bytes) => (&[*delay, *star, bytes.len() as u64], bytes),
         Mended(text, removals) => (&[text.len() as u64, removals.len() as u64], text),
     };
     if let Mended(_, removals) = &example.expected {
@@ -106,6 +109,8 @@ pub fn all() -> Vec<Example> {
         batches(),
         batches_with_bad_questions(),
         batches_refused(),
+        first_half(),
+        second_half(),
     ];
     parts.into_iter().flatten().collect()
 }
@@ -190,6 +195,20 @@ fn send_at(command: &[u8], row: u64, column: u64) -> Case {
 
 fn stepping(command: &[u8], row: u64, column: u64, back: &[u8], up: &[u8]) -> Case {
     Case { back: back.to_vec(), up: up.to_vec(), ..send_at(command, row, column) }
+}
+
+fn fill(command: &[u8], row: u64, column: u64) -> Case {
+    let case = Case { operation: Operation::Fill, ..send_at(command, row, column) };
+    Case { lines: 0, speed: 0, pad: 0, ..case }
+}
+
+/// For 2 lines at 10,000 bits a second: a pad for each ten tenths.
+fn pad(delay: u64, star: u64, bytes: &[u8]) -> Case {
+    Case { operation: Operation::Pad, delay, star, ..send(bytes, 2, 10_000) }
+}
+
+fn finished(delay: u64, star: u64, bytes: &[u8]) -> Expected {
+    Finished(delay, star, bytes.to_vec())
 }
 
 fn bytes(bytes: &[u8]) -> Expected {
@@ -801,7 +820,8 @@ fn padding() -> Vec<Example> {
 
 fn order_of_send() -> Vec<Example> {
     let bad_row = Case { command: b"12345%x".to_vec(), ..send_at(b"", 10_000, 0) };
-    let bad_lines = Case { lines: 1_001, ..send_at(b"12345%x", 0, 0) };
+    let bad_lines = |command: &[u8]| Case { lines: 1_001, ..send_at(command, 27, 0) };
+    let long_fault = [vec![b'a'; 3_000], b"%x".to_vec()].concat();
     vec![
         example("lines 0", send(b"a", 0, 0), Refused(12)),
         example("lines 1,000", send(b"a", 1_000, 0), bytes(b"a")),
@@ -814,10 +834,17 @@ fn order_of_send() -> Vec<Example> {
         example("a row that is large", send_at(b"a", 1 << 32, 0), Refused(12)),
         example("a speed that is large", send(b"a", 1, (1 << 32) + 9_600), Refused(12)),
         example("lines that are large", send(b"a", (1 << 32) + 1, 0), Refused(12)),
+        // Ask 7: Send at 12 (row, column), 13, the body, 12 (lines, speed), 9; Send 13, 12, 9.
         example("12 before 13, row", bad_row, Refused(12)),
-        example("12 before 13, lines", bad_lines, Refused(12)),
-        example("12 before 13, Send", send(b"12345", 0, 0), Refused(12)),
-        example("12 before 13, speed", send(b"1.23", 1, 115_201), Refused(12)),
+        example("12 before 13, column", send_at(b"12345%x", 0, 10_000), Refused(12)),
+        example("13 before 12, lines", bad_lines(b"12345%x"), Refused(13)),
+        example("10 before 12, lines", bad_lines(b"%x"), Refused(10)),
+        example("11 before 12, lines", bad_lines(b"%d%d%d"), Refused(11)),
+        example("a long body's fault before 12", bad_lines(&long_fault), Refused(10)),
+        example("12 for lines before 9", Case { room: 0, ..bad_lines(b"a") }, Refused(12)),
+        example("13 before 12, Send", send(b"12345", 0, 0), Refused(13)),
+        example("13 before 12, speed", send(b"1.23", 1, 115_201), Refused(13)),
+        example("12 before 9, Send", Case { room: 0, ..send(b"a", 0, 0) }, Refused(12)),
         example("13 before 10", send_at(b"12345%x", 0, 0), Refused(13)),
         example("13 before 9", Case { room: 0, ..send(b"12345a", 1, 0) }, Refused(13)),
         example("10 before 9", Case { room: 0, ..send_at(b"abc%x", 0, 0) }, Refused(10)),
@@ -1201,6 +1228,57 @@ fn batches_refused() -> Vec<Example> {
             Case { room: 16, ..batch(b"", b"n", b"am\x01\0tc\x01\0") },
             Answers(vec![NO(4), NO(2)]),
         ),
+    ]
+}
+
+// ---------------------------------------------------------------------------------------------
+// Document 02, Ask 7: Send at in two halves
+// ---------------------------------------------------------------------------------------------
+
+fn first_half() -> Vec<Example> {
+    let raised = Case { back: b"<".to_vec(), up: b"^".to_vec(), ..fill(b"2%.%.", 9, 0) };
+    let no_room = |command: &[u8]| Case { room: 0, ..fill(command, 0, 0) };
+    vec![
+        example("delay, star and bytes apart", fill(b"5*%dA", 5, 0), finished(50, 1, b"5A")),
+        example("no star", fill(b"1.5%d", 5, 0), finished(15, 0, b"5")),
+        example("no prefix", fill(b"%dA", 5, 0), finished(0, 0, b"5A")),
+        example("the longest delay", fill(b"9999.9*a", 0, 0), finished(99_999, 1, b"a")),
+        example("0* is a star", fill(b"0*", 0, 0), finished(0, 1, b"")),
+        example("finished with compensations", raised, finished(20, 0, b"\x0b\x01^^<")),
+        example("nothing to finish", no_room(b""), finished(0, 0, b"")),
+        example(
+            "finished in place",
+            Case { room: 2, ..fill(b"5*%dA", 5, 0) },
+            finished(50, 1, b"5A"),
+        ),
+        example("fill: 12 before 13, row", fill(b"12345%x", 10_000, 0), Refused(12)),
+        example("fill: 12 before 13, column", fill(b"12345%x", 0, 10_000), Refused(12)),
+        example("fill: 13 before 10", fill(b"12345%x", 0, 0), Refused(13)),
+        example("fill: 10 before 9", no_room(b"a%x"), Refused(10)),
+        example("fill: 11 before 9", no_room(b"%d%d%d"), Refused(11)),
+        example("fill: 12 before 9", Case { room: 0, ..fill(b"%D%d", 9, 0) }, Refused(12)),
+        example("fill: 9", Case { room: 1, ..fill(b"5*%dA", 5, 0) }, Refused(9)),
+    ]
+}
+
+fn second_half() -> Vec<Example> {
+    let most = Case { lines: 1_000, speed: 115_200, ..pad(99_999, 1, b"a") };
+    vec![
+        example("a digit is no padding", pad(20, 0, b"5A"), bytes(b"5APP")),
+        example("nor is a star", pad(20, 1, b"5*%d"), bytes(b"5*%dPPPP")),
+        example("nor are five digits", pad(0, 0, b"12345"), bytes(b"12345")),
+        example("any star but 0", pad(20, u64::MAX, b"a"), bytes(b"aPPPP")),
+        example("no bytes", pad(1, 0, b""), bytes(b"P")),
+        example("99,999 tenths", Case { speed: 1, ..pad(99_999, 0, b"a") }, bytes(b"aP")),
+        example("100,000 tenths", Case { speed: 1, ..pad(100_000, 0, b"a") }, Refused(12)),
+        example("a delay that is large", pad((1 << 32) + 20, 0, b"a"), Refused(12)),
+        example("pad: lines 0", Case { lines: 0, ..pad(0, 0, b"a") }, Refused(12)),
+        example("pad: lines 1,001", Case { lines: 1_001, ..pad(0, 0, b"a") }, Refused(12)),
+        example("pad: speed 115,201", Case { speed: 115_201, ..pad(0, 0, b"a") }, Refused(12)),
+        example("pad: 12 before 9", Case { room: 0, ..pad(100_000, 0, b"a") }, Refused(12)),
+        example("pad: the most pads", most, Refused(9)),
+        example("pad: 9", Case { room: 3, ..pad(20, 0, b"5A") }, Refused(9)),
+        example("pad: just room", Case { room: 4, ..pad(20, 0, b"5A") }, bytes(b"5APP")),
     ]
 }
 

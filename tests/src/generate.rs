@@ -7,7 +7,7 @@
 use crate::case::{Case, Operation};
 use crate::random::Random;
 use crate::reference::batch::{ANSWER_BYTES, QUESTION_BYTES};
-use crate::reference::{self, Position};
+use crate::reference::{self, halves, Position};
 
 mod commands;
 mod databases;
@@ -19,7 +19,8 @@ pub use databases::many_flags;
 /// Case number `index` of the run with this seed.
 pub fn case(seed: u64, index: u64) -> Case {
     let mut random = Random::for_case(seed, index);
-    let operation = Operation::ALL[random.weighted(&[7, 7, 9, 9, 14, 11, 11, 9, 9, 9, 14, 5, 4])];
+    let operation =
+        Operation::ALL[random.weighted(&[7, 7, 9, 9, 14, 11, 11, 9, 9, 9, 14, 5, 4, 6, 6, 4])];
     fill_in(&mut random, operation)
 }
 
@@ -83,6 +84,7 @@ fn rooms_of_repair(random: &mut Random, case: &mut Case) {
 /// The bytes that a successful call would write.
 fn needed(case: &Case) -> Option<u64> {
     let (database, name, id) = (case.files(), &case.name[..], &case.id[..]);
+    let position = Position { row: case.row, column: case.column, back: &case.back, up: &case.up };
     let with_pads = |(body, pads): (Vec<u8>, u64)| body.len() as u64 + pads;
     match case.operation {
         Operation::String => {
@@ -94,12 +96,15 @@ fn needed(case: &Case) -> Option<u64> {
         Operation::Send => {
             reference::send_parts(&case.command, case.lines, case.speed).ok().map(with_pads)
         }
-        Operation::SendAt => {
-            let position =
-                Position { row: case.row, column: case.column, back: &case.back, up: &case.up };
+        Operation::SendAt | Operation::Halves => {
             reference::send_at_parts(&case.command, position, case.lines, case.speed)
                 .ok()
                 .map(with_pads)
+        }
+        Operation::Fill => Some(halves::finish(&case.command, position).ok()?.bytes.len() as u64),
+        Operation::Pad => {
+            let pads = halves::pads(case.delay, case.star != 0, case.lines, case.speed).ok()?;
+            Some(case.command.len() as u64 + pads)
         }
         _ => None,
     }

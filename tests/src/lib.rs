@@ -6,6 +6,7 @@
 pub mod case;
 pub mod examples;
 pub mod generate;
+pub mod halves;
 pub mod mix;
 pub mod properties;
 pub mod random;

@@ -206,6 +206,33 @@ extern "C" {
         out_len: usize,
         count: *mut u64,
     ) -> u32;
+    fn termcap_fill(
+        command: *const u8,
+        command_len: usize,
+        row: u64,
+        column: u64,
+        back: *const u8,
+        back_len: usize,
+        up: *const u8,
+        up_len: usize,
+        out: *mut u8,
+        out_len: usize,
+        delay: *mut u64,
+        star: *mut u64,
+        count: *mut u64,
+    ) -> u32;
+    fn termcap_pad(
+        delay: u64,
+        star: u64,
+        bytes: *const u8,
+        bytes_len: usize,
+        lines: u64,
+        speed: u64,
+        pad: u8,
+        out: *mut u8,
+        out_len: usize,
+        count: *mut u64,
+    ) -> u32;
 }
 
 /// The pointer to pass for a slice; for an empty one it dangles, but is never null.
@@ -524,6 +551,61 @@ impl Subject for Library {
                 position.back.len(),
                 pointer(position.up),
                 position.up.len(),
+                lines,
+                speed,
+                pad,
+                out.as_mut_ptr(),
+                out.len(),
+                count,
+            )
+        }
+    }
+
+    fn fill(
+        &self,
+        command: &[u8],
+        position: Position,
+        out: &mut [u8],
+        delay: &mut u64,
+        star: &mut u64,
+        count: &mut u64,
+    ) -> u32 {
+        unsafe {
+            termcap_fill(
+                pointer(command),
+                command.len(),
+                position.row,
+                position.column,
+                pointer(position.back),
+                position.back.len(),
+                pointer(position.up),
+                position.up.len(),
+                out.as_mut_ptr(),
+                out.len(),
+                delay,
+                star,
+                count,
+            )
+        }
+    }
+
+    fn pad(
+        &self,
+        delay: u64,
+        star: u64,
+        bytes: &[u8],
+        lines: u64,
+        speed: u64,
+        pad: u8,
+        out: &mut [u8],
+        count: &mut u64,
+    ) -> u32 {
+        unsafe {
+            termcap_pad(
+                delay,
+                star,
+                pointer(bytes),
+                bytes.len(),
                 lines,
                 speed,
                 pad,

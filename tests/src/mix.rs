@@ -93,6 +93,8 @@ mod tests {
             Operation::SendAt => &[ACCEPTED, 9, 10, 11, 12, 13],
             Operation::Properties => &[ACCEPTED, 1, 4, 5, 6, 7, 8, 16],
             Operation::RepairPromises => &[ACCEPTED, 14],
+            Operation::Fill | Operation::Halves => &[ACCEPTED, 9, 10, 11, 12, 13],
+            Operation::Pad => &[ACCEPTED, 9, 12],
         }
     }
 

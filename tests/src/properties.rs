@@ -188,7 +188,7 @@ fn check_alone(
     demand(same, || "Flat of Flat gives other bytes".into())?;
     let shown = alone.call(Operation::Show, b"", 0);
     let whole_line = [0, line.len().saturating_sub(1) as u64];
-    demand(shown.code == ACCEPTED && shown.numbers == whole_line, || {
+    demand(shown.code == ACCEPTED && shown.numbers[..2] == whole_line, || {
         "showing Flat doesn't give its one line".into()
     })
 }

@@ -7,6 +7,7 @@
 
 pub mod batch;
 pub mod files;
+pub mod halves;
 pub mod repair;
 pub mod search;
 
@@ -103,9 +104,9 @@ pub fn send(
 
 /// The body that Send writes, and the number of pads after it.
 pub fn send_parts(command: &[u8], lines: u64, speed: u64) -> Result<(Vec<u8>, u64), Refusal> {
-    // "12 for the inputs, 13, then faults from left to right through the body": Send has none.
-    check_lines_and_speed(lines, speed)?;
+    // Ask 7: "for plain Send 13, 12, 9".
     let (padding, body) = split_padding(command)?;
+    check_lines_and_speed(lines, speed)?;
     // "Send copies percent signs unchanged."
     Ok((body.to_vec(), pad_count(padding, lines, speed)))
 }
@@ -138,12 +139,12 @@ pub fn send_at_parts(
     lines: u64,
     speed: u64,
 ) -> Result<(Vec<u8>, u64), Refusal> {
-    // "12 for the inputs, 13, then faults from left to right through the body": the inputs
-    // are the row and the column too (our reading).
+    // Ask 7: "for Send at, 12 for row and column, 13, the body's faults, then 12 for lines and
+    // speed, then 9".
     check_row_and_column(position.row, position.column)?;
-    check_lines_and_speed(lines, speed)?;
     let (padding, body) = split_padding(command)?;
     let filled = fill_in(body, position)?;
+    check_lines_and_speed(lines, speed)?;
     Ok((filled, pad_count(padding, lines, speed)))
 }
 

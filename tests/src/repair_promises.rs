@@ -24,7 +24,7 @@ fn check(case: &Case, subject: &impl Subject) -> Result<(), String> {
         let allowed = if case.database.len() > 1_048_576 { 3 } else { 14 };
         return demand(seen.code == allowed, || format!("Repair gives {}", seen.code));
     }
-    let [count, removed] = seen.numbers;
+    let [count, removed, _] = seen.numbers;
     demand(count <= case.database.len() as u64, || "the mended database is longer".into())?;
     let mended = seen.reported(count).to_vec();
     check_records(&seen)?;
@@ -34,8 +34,9 @@ fn check(case: &Case, subject: &impl Subject) -> Result<(), String> {
     demand(is_sound(&mended), || "the mended database is not sound".into())?;
     check_names(&mended, subject)?;
     let again = repair(case, &mended, subject);
-    let unchanged =
-        again.code == ACCEPTED && again.numbers == [count, 0] && again.reported(count) == mended;
+    let unchanged = again.code == ACCEPTED
+        && again.numbers[..2] == [count, 0]
+        && again.reported(count) == mended;
     demand(unchanged, || "mending twice changes something".into())
 }
 

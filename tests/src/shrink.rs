@@ -14,7 +14,7 @@ const BYTES: [fn(&mut Case) -> &mut Vec<u8>; 7] = [
     |case| &mut case.up,
 ];
 
-const NUMBERS: [fn(&mut Case) -> &mut u64; 7] = [
+const NUMBERS: [fn(&mut Case) -> &mut u64; 9] = [
     |case| &mut case.room,
     |case| &mut case.records_room,
     |case| &mut case.row,
@@ -22,6 +22,8 @@ const NUMBERS: [fn(&mut Case) -> &mut u64; 7] = [
     |case| &mut case.lines,
     |case| &mut case.speed,
     |case| &mut case.fill,
+    |case| &mut case.delay,
+    |case| &mut case.star,
 ];
 
 /// A text is cut into at most so many pieces, so that a long one doesn't use up the time.

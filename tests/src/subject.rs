@@ -3,6 +3,7 @@
 //!
 //! Each gives the result code: 0 accepted or present, 255 absent, otherwise the refusal number.
 
+use crate::reference::halves::{self, Finished};
 use crate::reference::{self, Files, Position, Refusal};
 
 pub const ACCEPTED: u32 = 0;
@@ -53,6 +54,27 @@ pub trait Subject {
         &self,
         command: &[u8],
         position: Position,
+        lines: u64,
+        speed: u64,
+        pad: u8,
+        out: &mut [u8],
+        count: &mut u64,
+    ) -> u32;
+    fn fill(
+        &self,
+        command: &[u8],
+        position: Position,
+        out: &mut [u8],
+        delay: &mut u64,
+        star: &mut u64,
+        count: &mut u64,
+    ) -> u32;
+    #[allow(clippy::too_many_arguments)]
+    fn pad(
+        &self,
+        delay: u64,
+        star: u64,
+        bytes: &[u8],
         lines: u64,
         speed: u64,
         pad: u8,
@@ -190,5 +212,40 @@ impl Subject for Reference {
         count: &mut u64,
     ) -> u32 {
         accepted(reference::send_at(command, position, lines, speed, pad, out), count)
+    }
+
+    fn fill(
+        &self,
+        command: &[u8],
+        position: Position,
+        out: &mut [u8],
+        delay: &mut u64,
+        star: &mut u64,
+        count: &mut u64,
+    ) -> u32 {
+        match halves::fill(command, position, out) {
+            Ok(finished) => {
+                *delay = finished.delay;
+                *star = u64::from(finished.star);
+                *count = finished.bytes.len() as u64;
+                ACCEPTED
+            }
+            Err(refusal) => u32::from(refusal),
+        }
+    }
+
+    fn pad(
+        &self,
+        delay: u64,
+        star: u64,
+        bytes: &[u8],
+        lines: u64,
+        speed: u64,
+        pad: u8,
+        out: &mut [u8],
+        count: &mut u64,
+    ) -> u32 {
+        let finished = Finished { delay, star: star != 0, bytes: bytes.to_vec() };
+        accepted(halves::pad(&finished, lines, speed, pad, out), count)
     }
 }

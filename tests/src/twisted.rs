@@ -108,4 +108,32 @@ impl<F: Fn(Answer) -> u32> Subject for Twisted<F> {
         let code = Reference.send_at(command, position, lines, speed, pad, out, count);
         (self.0)(Answer { operation: Operation::SendAt, code, number: count, out })
     }
+
+    fn fill(
+        &self,
+        command: &[u8],
+        position: Position,
+        out: &mut [u8],
+        delay: &mut u64,
+        star: &mut u64,
+        count: &mut u64,
+    ) -> u32 {
+        let code = Reference.fill(command, position, out, delay, star, count);
+        (self.0)(Answer { operation: Operation::Fill, code, number: count, out })
+    }
+
+    fn pad(
+        &self,
+        delay: u64,
+        star: u64,
+        bytes: &[u8],
+        lines: u64,
+        speed: u64,
+        pad: u8,
+        out: &mut [u8],
+        count: &mut u64,
+    ) -> u32 {
+        let code = Reference.pad(delay, star, bytes, lines, speed, pad, out, count);
+        (self.0)(Answer { operation: Operation::Pad, code, number: count, out })
+    }
 }

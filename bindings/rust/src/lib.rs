@@ -1,7 +1,9 @@
 //! Safe Rust over the proved termcap library.
 //!
 //! A [`Database`] is a view of the bytes of a termcap file. Its methods answer what a terminal can
-//! do; [`send`] and [`send_at`] turn a decoded string into the bytes for the line, padding included.
+//! do; [`send`] and [`send_at`] turn a decoded string into the bytes for the line, padding included;
+//! [`fill`] and [`Finished::send_to`] are the two halves of [`send_at`], for one position that goes to
+//! several lines.
 //!
 //! ```
 //! use termcap_proved::{send_at, Database, Line, Position};
@@ -45,12 +47,13 @@
 //! | [`Database::list`], [`Database::flat`] | 12,288 |
 //! | [`Database::batch`] | 71,680 |
 //! | [`Database::repair`] | 155,648 |
-//! | [`send`], [`send_at`] | 4,096 |
+//! | [`send`], [`send_at`], [`fill`], [`Finished::send_to`] | 4,096 |
 
 #![deny(missing_docs)]
 #![deny(unsafe_code)]
 
 mod files;
+mod finished;
 mod question;
 mod record;
 mod refusal;
@@ -59,6 +62,7 @@ mod removal;
 mod sys;
 
 pub use files::Files;
+pub use finished::{fill, fill_into, Finished};
 pub use question::{Answered, Question};
 pub use record::{Kind, Record};
 pub use refusal::{NotARefusal, Refusal};
@@ -566,11 +570,14 @@ pub fn send_at(
     line: &Line,
 ) -> Result<Vec<u8>, Refusal> {
     let command = command.as_ref();
-    // Each of the two parameters is written once, from a sequence of at least two bytes: as a
-    // decimal of at most five digits, or as a byte with at most two compensations, each the
-    // string or one byte 8.
-    let filled = command.len() + 2 * 3 + 2 * (position.back.len() + position.up.len() + 1);
-    grown(filled, |out| send_at_into(command, position, line, out))
+    grown(filled_bytes(command, position), |out| send_at_into(command, position, line, out))
+}
+
+/// The most bytes that a filled body has. Each of the two parameters is written once, from a sequence
+/// of at least two bytes: as a decimal of at most five digits, or as a byte with at most two
+/// compensations, each the string or one byte 8.
+fn filled_bytes(command: &[u8], position: &Position<'_>) -> usize {
+    command.len() + 2 * 3 + 2 * (position.back.len() + position.up.len() + 1)
 }
 
 /// Writes what [`send_at`] gives to the start of `out` and gives the number of its bytes.

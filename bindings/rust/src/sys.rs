@@ -130,6 +130,33 @@ mod c {
             out_len: usize,
             count: *mut u64,
         ) -> u32;
+        pub fn termcap_fill(
+            command: *const u8,
+            command_len: usize,
+            row: u64,
+            column: u64,
+            back: *const u8,
+            back_len: usize,
+            up: *const u8,
+            up_len: usize,
+            out: *mut u8,
+            out_len: usize,
+            delay: *mut u64,
+            star: *mut u64,
+            count: *mut u64,
+        ) -> u32;
+        pub fn termcap_pad(
+            delay: u64,
+            star: u64,
+            bytes: *const u8,
+            bytes_len: usize,
+            lines: u64,
+            speed: u64,
+            pad: u8,
+            out: *mut u8,
+            out_len: usize,
+            count: *mut u64,
+        ) -> u32;
     }
 }
 
@@ -359,6 +386,66 @@ pub fn send_at(
             back.len(),
             up.as_ptr(),
             up.len(),
+            lines,
+            speed,
+            pad,
+            out.as_mut_ptr(),
+            out.len(),
+            count,
+        )
+    }
+}
+
+#[allow(clippy::too_many_arguments)] // the C function's own parameters
+pub fn fill(
+    command: &[u8],
+    row: u64,
+    column: u64,
+    back: &[u8],
+    up: &[u8],
+    out: &mut [u8],
+    delay: &mut u64,
+    star: &mut u64,
+    count: &mut u64,
+) -> u32 {
+    // SAFETY: see above.
+    unsafe {
+        c::termcap_fill(
+            command.as_ptr(),
+            command.len(),
+            row,
+            column,
+            back.as_ptr(),
+            back.len(),
+            up.as_ptr(),
+            up.len(),
+            out.as_mut_ptr(),
+            out.len(),
+            delay,
+            star,
+            count,
+        )
+    }
+}
+
+#[allow(clippy::too_many_arguments)] // the C function's own parameters
+pub fn pad(
+    delay: u64,
+    star: u64,
+    bytes: &[u8],
+    lines: u64,
+    speed: u64,
+    pad: u8,
+    out: &mut [u8],
+    count: &mut u64,
+) -> u32 {
+    // SAFETY: see above.
+    unsafe {
+        c::termcap_pad(
+            delay,
+            star,
+            bytes.as_ptr(),
+            bytes.len(),
             lines,
             speed,
             pad,

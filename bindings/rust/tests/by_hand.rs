@@ -1,8 +1,8 @@
 //! Calls with answers worked out by hand.
 
 use termcap_proved::{
-    send, send_at, send_at_into, send_into, Answered, Database, Files, Kind, Line, NotARefusal,
-    Position, Question, Record, Refusal, Search, FLAT_BYTES, RECORDS,
+    fill, fill_into, send, send_at, send_at_into, send_into, Answered, Database, Files, Finished,
+    Kind, Line, NotARefusal, Position, Question, Record, Refusal, Search, FLAT_BYTES, RECORDS,
 };
 
 const CASE: &[u8] = br"N9|aaa:am:li#30:tc=aaa-unk:
@@ -356,6 +356,54 @@ fn padding_of_motions_is_taken_off_first() {
     assert_eq!(at(&bare_back, &bare_up), b"\x14\x0B\x0B\x1B[A\x08\x08\0\0\0\0");
     // As they stand, the digits are sent, too.
     assert_eq!(at(&back, &up), b"\x14\x0B\x0B3.5\x1B[A2\x082\x08\0\0\0\0");
+}
+
+#[test]
+fn send_at_in_two_halves() {
+    let position = Position { row: 9, column: 0, back: b"<", up: b"^" };
+    let finished = fill("1.5*%.%.5", &position).unwrap();
+    assert_eq!((finished.delay(), finished.star()), (15, true));
+    assert_eq!(finished.as_bytes(), b"\x0B\x015^^<");
+
+    // 3 milliseconds for two lines are 2.88 bytes at 9,600 bits a second, 0.36 at 1,200.
+    let line = Line { lines: 2, speed: 9600, pad: b'.' };
+    assert_eq!(finished.send_to(&line), Ok(b"\x0B\x015^^<...".to_vec()));
+    assert_eq!(finished.send_to(&Line { speed: 1200, ..line }), Ok(b"\x0B\x015^^<.".to_vec()));
+    assert_eq!(finished.send_to(&line), send_at("1.5*%.%.5", &position, &line));
+
+    // Bytes that begin with a digit are not read as padding.
+    let kept = Finished::from_parts(0, false, b"5*A");
+    assert_eq!(kept.send_to(&line), Ok(b"5*A".to_vec()));
+    assert_eq!(
+        Finished::from_parts(99_999, false, b"").send_to(&Line { speed: 0, ..line }),
+        Ok(vec![])
+    );
+    assert_eq!(Finished::from_parts(100_000, false, b"").send_to(&line), Err(Refusal::OutOfRange));
+}
+
+#[test]
+fn the_halves_refuse_in_their_order() {
+    let off = Position { row: 10_000, ..Position::default() };
+    let at = Position::default();
+    let bad = Line { lines: 0, ..SLOW };
+    assert_eq!(fill("12345%x", &off), Err(Refusal::OutOfRange));
+    assert_eq!(fill("12345%x", &at), Err(Refusal::BadPadding));
+    assert_eq!(fill("%x", &at), Err(Refusal::UnknownSequence));
+    assert_eq!(fill("%d%d%d", &at), Err(Refusal::TooFewParameters));
+    assert_eq!(send_at("12345%x", &off, &bad), Err(Refusal::OutOfRange));
+    assert_eq!(send_at("12345%x", &at, &bad), Err(Refusal::BadPadding));
+    assert_eq!(send_at("%x", &at, &bad), Err(Refusal::UnknownSequence));
+    assert_eq!(send_at("%d", &at, &bad), Err(Refusal::OutOfRange));
+    assert_eq!(send("12345", &bad), Err(Refusal::BadPadding));
+
+    let mut out = [MARK; 4];
+    assert_eq!(fill_into("%dAB", &at, &mut out[..2]), Err(Refusal::NoRoom));
+    let kept = Finished::from_parts(10, false, b"AB");
+    assert_eq!(kept.send_to_into(&bad, &mut out[..2]), Err(Refusal::OutOfRange));
+    assert_eq!(kept.send_to_into(&SLOW, &mut out[..2]), Err(Refusal::NoRoom));
+    assert_eq!(out, [MARK; 4]);
+    assert_eq!(kept.send_to_into(&SLOW, &mut out), Ok(3));
+    assert_eq!(out, [b'A', b'B', 0, MARK]);
 }
 
 #[test]

@@ -15,7 +15,25 @@ use Rattle.spec.specs.Lookup.{Hit, none, hit, lookup, winning, bytesOf}
 use Rattle.spec.specs.Answers.{Outcome, keeping, put}
 use Rattle.spec.specs.Questions.{terminalOf, terminalFor, presented, decodedOutcome, stringFor, stringOutcome}
 use Rattle.spec.specs.Listing.{records, listFor, listOutcome, flatText, flatFor, flatOutcome}
-use Rattle.spec.specs.Sending.{Outgoing, sends, stops, outgoing, outgoingAt, delivered, sendOutcome, sendAtOutcome}
+use Rattle.spec.specs.Sending.{
+  Prepared,
+  finished,
+  refused as notPrepared,
+  prepared,
+  preparedAt,
+  Outgoing,
+  sends,
+  stops,
+  padded,
+  delivered,
+  sendOutcome,
+  sendAtOutcome,
+  filledAnswer,
+  filledInto,
+  fillOutcome,
+  handed,
+  padOutcome,
+}
 use Rattle.spec.proofs.Winning.{winning-wins}
 use Rattle.spec.proofs.Records.{records-length}
 use Rattle.spec.specs.declared.Refusal.{Refusal}
@@ -24,7 +42,9 @@ use Rattle.spec.specs.declared.Answer.{Answer}
 use Rattle.spec.specs.declared.Answer.the-variants.{Present, Absent, Refused as NotAnswered}
 use Rattle.spec.specs.declared.Written.{Written}
 use Rattle.spec.specs.declared.Written.the-variants.{Count, Refused}
-use Rattle.demands.specs.Demand1.{OnlyFirst, Writes, Answers, Demand1}
+use Rattle.spec.specs.declared.Fill.{Fill}
+use Rattle.spec.specs.declared.Fill.the-variants.{Refused as NotFilled}
+use Rattle.demands.specs.Demand1.{OnlyFirst, Writes, Answers, Fills, Demand1}
 
 -- ---- a buffer that is kept
 
@@ -58,6 +78,32 @@ delivered-writes : (x : Outgoing) (buffer : List ℕ) → Writes 1 buffer (deliv
 unfolding delivered
 delivered-writes (sends l) buffer = written 1 l (length l) buffer (omega arith)
 delivered-writes (stops r) buffer = kept 1 r buffer
+
+filled-fills : (p : Prepared) (buffer : List ℕ) → Fills buffer (filledInto p buffer)
+filled-fills (finished f) buffer = go (o .answer) refl
+  where
+    o : Outcome Written
+    o = put (f .bytes) (length (f .bytes)) buffer
+
+    w : Writes 1 buffer o
+    w = written 1 (f .bytes) (length (f .bytes)) buffer (omega arith)
+
+    go : (a : Written) → o .answer ≡ a → Fills buffer (record { answer = filledAnswer (f .delay) (f .star) a; buffer = o .buffer })
+    go (Count n) e = record {
+      refused = λ r k. let z : _≡_ {A = ℕ} 0 1 = cc in absurd (omega arith);
+      accepted = λ g k.
+          let same : record { delay = f .delay; star = f .star; count = n } ≡ g = cc in
+          let one : 1 * n ≡ n = omega arith in
+          rw (← same, ← one) (w .accepted n e);
+    }
+    go (Refused s) e = record {
+      refused = λ r k. w .refused s e;
+      accepted = λ g k. let z : _≡_ {A = ℕ} 0 1 = cc in absurd (omega arith);
+    }
+filled-fills (notPrepared r) buffer = record {
+  refused = λ s e. refl;
+  accepted = λ g e. let z : _≡_ {A = ℕ} 0 1 = cc in absurd (omega arith);
+}
 
 -- ---- String
 
@@ -116,11 +162,13 @@ flat-writes (refused r) buffer = kept 1 r buffer
 flat-writes (terminal names fs) buffer = written 1 (flatText names fs) (length (flatText names fs)) buffer (omega arith)
 
 pub demand-1 : Demand1
-unfolding stringOutcome listOutcome flatOutcome sendOutcome sendAtOutcome
+unfolding stringOutcome listOutcome flatOutcome sendOutcome sendAtOutcome fillOutcome padOutcome
 demand-1 = record {
   string = λ db name id buffer. string-answers id (terminalFor db name id) buffer;
   list = λ db name buffer. list-writes (terminalOf db name) buffer;
   flat = λ db name buffer. flat-writes (terminalOf db name) buffer;
-  send = λ cmd lines speed pad buffer. delivered-writes (outgoing cmd lines speed pad) buffer;
-  send-at = λ cmd row column back up lines speed pad buffer. delivered-writes (outgoingAt cmd row column back up lines speed pad) buffer;
+  send = λ cmd lines speed pad buffer. delivered-writes (padded (prepared cmd) lines speed pad) buffer;
+  send-at = λ cmd row column back up lines speed pad buffer. delivered-writes (padded (preparedAt cmd row column back up) lines speed pad) buffer;
+  fill = λ cmd row column back up buffer. filled-fills (preparedAt cmd row column back up) buffer;
+  pad = λ delay star bytes lines speed pad buffer. delivered-writes (padded (handed delay star bytes) lines speed pad) buffer;
 }

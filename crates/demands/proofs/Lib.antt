@@ -15,3 +15,4 @@ pub mod SoundUnchanged
 pub mod RepairPromises
 pub mod RepairRoom
 pub mod Batch
+pub mod Halves

@@ -253,17 +253,22 @@ string-room db name id buffer h = go (terminalFor db name id) refl (asked-early 
 
 -- ---- the most pads
 
-delay-most : (delay lines : ℕ) (star : Bool) → delay < 100000 → lines ≤ 1000 → delayFor delay star lines ≤ 99999000
-delay-most delay lines true h l = let d : delay ≤ 99999 = omega arith in mul-le-mul d l
+delay-most : (delay lines : ℕ) (star : Bool) → delay ≤ 99999 → lines ≤ 1000 → delayFor delay star lines ≤ 99999000
+delay-most delay lines true h l = mul-le-mul h l
 delay-most delay lines false h l = omega arith
+
+handed-most : (delay : ℕ) (star : Bool) (lines speed : ℕ) → delay ≤ 99999 → lines ≤ 1000 → speed ≤ 115200
+    → padCount (delayFor delay star lines) speed ≤ 115198848
+unfolding padCount
+handed-most delay star lines speed d l s =
+    let most : delayFor delay star lines * speed ≤ 99999000 * 115200 = mul-le-mul (delay-most delay lines star d l) s in
+    omega (arith, most)
 
 pads-most : (cmd : List ℕ) (p : Split) (lines speed : ℕ) → prefixOf cmd ≡ split p → lines ≤ 1000 → speed ≤ 115200
     → padCount (delayFor (p .delay) (p .star) lines) speed ≤ 115198848
-unfolding padCount
 pads-most cmd p lines speed e l s =
     let small : p .delay < 100000 = subst (Splits (λ (q : Split). q .delay < 100000)) e (delay-below cmd) in
-    let most : delayFor (p .delay) (p .star) lines * speed ≤ 99999000 * 115200 = mul-le-mul (delay-most (p .delay) lines (p .star) small l) s in
-    omega (arith, most)
+    handed-most (p .delay) (p .star) lines speed (omega (arith, small)) l s
 
 pub enough-room : EnoughRoom
-enough-room = record { list = list-room; flat = flat-room; string = string-room; pads = pads-most }
+enough-room = record { list = list-room; flat = flat-room; string = string-room; pads = pads-most; handed-pads = handed-most }

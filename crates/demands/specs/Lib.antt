@@ -11,3 +11,4 @@ pub mod Room
 pub mod RepairPromises
 pub mod RepairRoom
 pub mod Batch
+pub mod Halves

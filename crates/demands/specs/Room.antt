@@ -1,6 +1,7 @@
 -- The numbers that the C header and the Rust crate state: lent buffers of these sizes are never too small, and no command asks for more pads.
 use Prim.Native.Nat.{ℕ, _≤_}
 use mathlib.Core.Path.{_≡_}
+use mathlib.Core.Bool.{Bool}
 use mathlib.Core.List.{List}
 use lib.ListN.{length}
 use Rattle.spec.specs.Files.{Files}
@@ -20,3 +21,6 @@ pub record EnoughRoom : Type 0 where
   -- 9,999.9 ms for each of 1,000 lines at 115,200 bits a second
   pub pads : (cmd : List ℕ) (p : Split) (lines speed : ℕ) → prefixOf cmd ≡ split p → lines ≤ 1000 → speed ≤ 115200
       → padCount (delayFor (p .delay) (p .star) lines) speed ≤ 115198848
+  -- the same of a delay that is handed to the second half of Send at
+  pub handed-pads : (delay : ℕ) (star : Bool) (lines speed : ℕ) → delay ≤ 99999 → lines ≤ 1000 → speed ≤ 115200
+      → padCount (delayFor delay star lines) speed ≤ 115198848

@@ -11,7 +11,8 @@ use Rattle.spec.specs.Choice.{both, between}
 use Rattle.spec.specs.Sending.{goodSpeed, goodPlace}
 use Rattle.spec.specs.Position.{fillIn}
 use Rattle.spec.proofs.Tests.{pick-told, both-true}
-use Rattle.sending.specs.Steps.{heldFor, filledFor}
+use Rattle.sending.specs.Steps.{CommandJudged, heldFor, filledFor}
+use Rattle.sending.specs.declared.Judged.{Judged}
 
 pub speed-in-range : (lines speed : ℕ) → goodSpeed lines speed ≡ true → (lines ≤ 1000) × (speed ≤ 115200)
 speed-in-range lines speed e =
@@ -40,9 +41,11 @@ held-plainly : (n : ℕ) → n ≤ 9999 → heldFor n ≡ 32768 + n
 held-plainly n h = let l : n ≤ 32767 = omega arith in rw (le-leb _ _ l)
 
 module _ (row column h k : ℕ) (eh : h ≡ heldFor row) (ek : k ≡ heldFor column) where
-  pub inputs-held : (lines speed : ℕ) (t : Bool) → t ≡ both (both (leb h 42767) (leb k 42767)) (goodSpeed lines speed) → t ≡ both (goodPlace row column)
-      (goodSpeed lines speed)
-  inputs-held lines speed t e = e ∙ rw (eh, ek, good-held row, good-held column)
+  pub place-judged : (cmd : List ℕ) (t : Bool) (x y : Judged) → t ≡ both (leb h 42767) (leb k 42767) → x ≡ y → CommandJudged cmd t x
+      → CommandJudged cmd (goodPlace row column) y
+  place-judged cmd t x y et ex j =
+      let held : t ≡ goodPlace row column = et ∙ rw (eh, ek, good-held row, good-held column) in
+      rw (← held, ← ex) j
 
   pub filled-held : (cmd back up : List ℕ) → row ≤ 9999 → column ≤ 9999 → filledFor cmd (record { 0 = h }) (record { 0 = k }) back up ≡ fillIn cmd row column
       back up

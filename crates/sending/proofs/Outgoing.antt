@@ -1,17 +1,17 @@
--- What goes out, by what the inputs and the prefix were judged to be. Assumes nothing.
+-- What goes out, by what the place, the prefix and the speed are. Assumes nothing.
 use mathlib.Core.Path.{_≡_, refl, sym, ap, subst}
 use mathlib.Core.Bool.{Bool, true, false}
-use mathlib.Core.List.{List, _++_}
-use Prim.Native.Nat.{ℕ, _<_}
+use mathlib.Core.List.{List, _++_, append-nil}
+use Prim.Native.Nat.{ℕ, _≤_, _<_}
+use borrow.Author.Tests.{le-leb, lt-leb}
 use lib.ListN.{drop, replicate}
-use Rattle.spec.specs.Choice.{pick, both}
+use Rattle.spec.specs.Choice.{pick}
 use Rattle.spec.specs.Padding.{Prefix, Split, prefixOf, delayFor, padCount}
 use Rattle.spec.specs.Position as Position
 use Rattle.spec.specs.Position.{body, fault, fillIn}
 use Rattle.spec.specs.Sending.{
   Prepared,
   refused,
-  copied,
   withBytes,
   filledIn,
   prepared,
@@ -22,14 +22,16 @@ use Rattle.spec.specs.Sending.{
   padded,
   goodSpeed,
   goodPlace,
-  outgoing,
-  outgoingAt,
+  delivered,
+  filledAnswer,
+  filledInto,
+  handed,
 }
 use Rattle.spec.proofs.PaddingLaws.{Splits, delay-below}
 use Rattle.position.proofs.FillSteps.{part, part-is}
 use Rattle.padding.specs.Reading.{PrefixRead}
 use Rattle.padding.specs.declared.Prefix.the-variants.{Split as SplitAt}
-use Rattle.sending.specs.Steps.{CommandJudged, withPads}
+use Rattle.sending.specs.Steps.{CommandJudged, apart, faultOr, withPads}
 use Rattle.sending.specs.declared.Judged.the-variants.{Body, Refused}
 use Rattle.spec.specs.declared.Refusal.{Refusal}
 use Rattle.spec.specs.declared.Refusal.the-variants.{OutOfRange}
@@ -37,39 +39,85 @@ use Rattle.spec.specs.declared.Refusal.the-variants.{OutOfRange}
 pub delay-small : (cmd : List ℕ) (delay : ℕ) (star : Bool) (from : ℕ) → PrefixRead cmd (SplitAt delay star from) → delay < 100000
 delay-small cmd delay star from r = subst (Splits (λ (p : Split). p .delay < 100000)) (r .0) (delay-below cmd)
 
--- A refusal, whatever is made of a prefix that is split off.
-refusal : (f : Prefix → Prepared) → ((r : Refusal) → f (Prefix.refused r) ≡ refused r) → (cmd : List ℕ) (t : Bool) (lines speed pad : ℕ) (r : Refusal)
-    → CommandJudged cmd t lines speed (Refused r) → pick t (padded (f (prefixOf cmd)) lines speed pad) (stops OutOfRange) ≡ stops r
-refusal f k cmd true lines speed pad r j = rw (j .1, k, j .0)
-refusal f k cmd false lines speed pad r j = ap stops (sym j)
-
--- A body and its pads.
-pads-behind : (p : Split) (t : Position.Body) (lines speed pad : ℕ)
-    → padded (withBytes p t) lines speed pad ≡ withPads t (padCount (delayFor (p .delay) (p .star) lines) speed) pad
-unfolding padsOf
-pads-behind p (body l) lines speed pad = refl
-pads-behind p (fault r) lines speed pad = refl
+-- ---- Send
 
 module _ (cmd : List ℕ) (lines speed pad : ℕ) where
-  pub send-refused : (r : Refusal) → CommandJudged cmd (goodSpeed lines speed) lines speed (Refused r) → outgoing cmd lines speed pad ≡ stops r
-  unfolding outgoing prepared
-  send-refused r j = refusal copied (λ r. refl) cmd (goodSpeed lines speed) lines speed pad r j
+  pub send-refused : (r : Refusal) → prefixOf cmd ≡ Prefix.refused r → padded (prepared cmd) lines speed pad ≡ stops r
+  unfolding prepared
+  send-refused r e = rw e
 
-  pub send-body : (from pads : ℕ) → CommandJudged cmd (goodSpeed lines speed) lines speed (Body from pads) → outgoing cmd lines speed pad ≡ sends
-      (part cmd from ++ replicate pads pad)
-  unfolding outgoing prepared padsOf
-  send-body from pads j = rw (j .0, j .3, part-is cmd from, j .5)
+  pub send-split : (delay : ℕ) (star : Bool) (from : ℕ) → prefixOf cmd ≡ Prefix.split (record { delay = delay; star = star; body = drop from cmd })
+      → padded (prepared cmd) lines speed pad ≡ padded (apart delay star (part cmd from)) lines speed pad
+  unfolding prepared
+  send-split delay star from e = rw (e, part-is cmd from)
 
-  module _ (row column : ℕ) (back up : List ℕ) where
-    pub send-at-refused : (r : Refusal) → CommandJudged cmd (both (goodPlace row column) (goodSpeed lines speed)) lines speed (Refused r)
-        → outgoingAt cmd row column back up lines speed pad ≡ stops r
-    unfolding outgoingAt preparedAt
-    send-at-refused r j = refusal (λ x. filledIn x row column back up) (λ r. refl) cmd (both (goodPlace row column) (goodSpeed lines speed)) lines speed pad r
-        j
+-- ---- finished bytes, by the speed; and those that are handed to the second half, by their delay
 
-    pub send-at-body : (from pads : ℕ) → CommandJudged cmd (both (goodPlace row column) (goodSpeed lines speed)) lines speed (Body from pads)
-        → outgoingAt cmd row column back up lines speed pad ≡ withPads (fillIn (part cmd from) row column back up) pads pad
-    unfolding outgoingAt preparedAt
-    send-at-body from pads j =
-        rw (j .0, j .3, part-is cmd from, j .5)
-        (pads-behind (record { delay = j .1; star = j .2; body = drop from cmd }) (fillIn (drop from cmd) row column back up) lines speed pad)
+module _ (delay : ℕ) (star : Bool) (bytes : List ℕ) (lines speed pad : ℕ) where
+  pub apart-slow : goodSpeed lines speed ≡ false → padded (apart delay star bytes) lines speed pad ≡ stops OutOfRange
+  apart-slow e = rw e
+
+  pub apart-fast : goodSpeed lines speed ≡ true
+      → padded (apart delay star bytes) lines speed pad ≡ sends (bytes ++ replicate (padCount (delayFor delay star lines) speed) pad)
+  unfolding padsOf
+  apart-fast e = rw e
+
+  pub handed-long : 99999 < delay → padded (handed delay star bytes) lines speed pad ≡ stops OutOfRange
+  handed-long h = rw (lt-leb delay 99999 h)
+
+  pub handed-short : delay ≤ 99999 → handed delay star bytes ≡ apart delay star bytes
+  handed-short h = rw (le-leb delay 99999 h)
+
+-- ---- a body that is filled in: at a good speed, at another one, and without pads
+
+body-fast : (p : Split) (t : Position.Body) (lines speed pad : ℕ) → goodSpeed lines speed ≡ true
+    → padded (withBytes p t) lines speed pad ≡ withPads t (padCount (delayFor (p .delay) (p .star) lines) speed) pad
+unfolding padsOf
+body-fast p (body l) lines speed pad e = rw e
+body-fast p (fault r) lines speed pad e = refl
+
+body-slow : (p : Split) (t : Position.Body) (lines speed pad : ℕ) → goodSpeed lines speed ≡ false
+    → padded (withBytes p t) lines speed pad ≡ stops (faultOr t)
+body-slow p (body l) lines speed pad e = rw e
+body-slow p (fault r) lines speed pad e = refl
+
+body-alone : (p : Split) (t : Position.Body) (out : List ℕ)
+    → filledInto (withBytes p t) out
+    ≡ record {
+      answer = filledAnswer (p .delay) (p .star) (delivered (withPads t 0 0) out .answer);
+      buffer = delivered (withPads t 0 0) out .buffer;
+    }
+unfolding delivered
+body-alone p (body l) out = rw (append-nil l)
+body-alone p (fault r) out = refl
+
+-- ---- Send at and its first half, by what the command was judged to be
+
+module _ (cmd : List ℕ) (row column : ℕ) (back up : List ℕ) where
+  pub at-refused : (r : Refusal) → CommandJudged cmd (goodPlace row column) (Refused r) → preparedAt cmd row column back up ≡ refused r
+  unfolding preparedAt
+  at-refused r = go (goodPlace row column)
+    where
+      go : (t : Bool) → CommandJudged cmd t (Refused r) → pick t (filledIn (prefixOf cmd) row column back up) (refused OutOfRange) ≡ refused r
+      go true j = rw (j .1, j .0)
+      go false j = ap refused (sym j)
+
+  module _ (delay : ℕ) (star : Bool) (from : ℕ) (j : CommandJudged cmd (goodPlace row column) (Body delay star from)) where
+    abbrev Filled : Position.Body
+    Filled = fillIn (part cmd from) row column back up
+
+    at-split : preparedAt cmd row column back up ≡ withBytes (record { delay = delay; star = star; body = drop from cmd }) Filled
+    unfolding preparedAt
+    at-split = rw (j .0, j .1, part-is cmd from)
+
+    pub at-slow : (lines speed pad : ℕ) → goodSpeed lines speed ≡ false
+        → padded (preparedAt cmd row column back up) lines speed pad ≡ stops (faultOr Filled)
+    at-slow lines speed pad s = rw at-split (body-slow (record { delay = delay; star = star; body = drop from cmd }) Filled lines speed pad s)
+
+    pub at-fast : (lines speed pad : ℕ) → goodSpeed lines speed ≡ true
+        → padded (preparedAt cmd row column back up) lines speed pad ≡ withPads Filled (padCount (delayFor delay star lines) speed) pad
+    at-fast lines speed pad s = rw at-split (body-fast (record { delay = delay; star = star; body = drop from cmd }) Filled lines speed pad s)
+
+    pub at-alone : (out : List ℕ) → filledInto (preparedAt cmd row column back up) out
+        ≡ record { answer = filledAnswer delay star (delivered (withPads Filled 0 0) out .answer); buffer = delivered (withPads Filled 0 0) out .buffer }
+    at-alone out = rw at-split (body-alone (record { delay = delay; star = star; body = drop from cmd }) Filled out)

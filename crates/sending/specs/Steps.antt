@@ -1,12 +1,13 @@
--- What the steps of Send and Send at answer, by the cases of their answers.
-use Prim.Native.Nat.{ℕ, _+_, _≤_}
+-- What the steps of Send, Send at and its two halves answer, by the cases of their answers.
+use Prim.Native.Nat.{ℕ, _+_, _≤_, _<_}
 use mathlib.Core.Path.{_≡_}
 use mathlib.Core.Bool.{Bool, true}
 use mathlib.Core.List.{List, _++_}
 use lib.Dec.{leb}
 use lib.ListN.{length, drop, replicate}
 use Rattle.spec.specs.Choice.{pick}
-use Rattle.spec.specs.Padding.{split, refused, prefixOf, delayFor, padCount}
+use Rattle.spec.specs.Padding.{split, refused, prefixOf}
+use Rattle.spec.specs.declared.Refusal.{Refusal}
 use Rattle.spec.specs.declared.Refusal.the-variants.{OutOfRange, BadPadding}
 use Rattle.spec.specs.Position.{body, fault, plainOf, raisingFor, compensated}
 use Rattle.spec.specs.declared.position.Row.{Row}
@@ -14,21 +15,28 @@ use Rattle.spec.specs.declared.position.Column.{Column}
 use Rattle.spec.specs.declared.position.Parameter.the-variants.{Row as OfRow, Column as OfColumn}
 use Rattle.spec.specs.declared.position.Parameters.the-variants.{TwoUnused}
 use Rattle.spec.specs.Position as Position
-use Rattle.spec.specs.Sending.{Outgoing, sends, stops}
+use Rattle.spec.specs.Sending.{Prepared, finished, Outgoing, sends, stops}
 use Rattle.sending.specs.declared.Judged.{Judged}
 use Rattle.sending.specs.declared.Judged.the-variants.{Body, Refused}
 
--- A command and whether its inputs are in their ranges: 12, 13, or the prefix and its count of pads.
-abbrev pub CommandJudged : List ℕ → Bool → ℕ → ℕ → Judged → Type 0
-CommandJudged cmd inRange lines speed (Body from pads) =
+-- A command and whether its place is in range: 12, 13, or the prefix and where the body starts.
+abbrev pub CommandJudged : List ℕ → Bool → Judged → Type 0
+CommandJudged cmd inRange (Body delay star from) =
     (inRange ≡ true)
-    × (delay : ℕ)
-    × (star : Bool)
     × (prefixOf cmd ≡ split (record { delay = delay; star = star; body = drop from cmd }))
     × (from ≤ length cmd)
-    × (pads ≡ padCount (delayFor delay star lines) speed)
-CommandJudged cmd inRange lines speed (Refused r) =
+    × (delay < 100000)
+CommandJudged cmd inRange (Refused r) =
     pick inRange ((r ≡ BadPadding) × (prefixOf cmd ≡ refused BadPadding)) (r ≡ OutOfRange)
+
+-- The delay, its star and the finished bytes apart.
+abbrev pub apart : ℕ → Bool → List ℕ → Prepared
+apart delay star bytes = finished (record { delay = delay; star = star; bytes = bytes })
+
+-- A body's first fault, or 12 if it has none.
+abbrev pub faultOr : Position.Body → Refusal
+faultOr (body l) = OutOfRange
+faultOr (fault r) = r
 
 -- A body and so many pads.
 abbrev pub withPads : Position.Body → ℕ → ℕ → Outgoing

@@ -1,15 +1,16 @@
-// Send and Send at: a command's body with its padding, into a lent buffer. Nothing is written before it is known that all fits.
+// Send, Send at and its two halves: a command's body with its padding, into a lent buffer. Nothing is written before it is known that all
+// fits.
 ghost use mathlib.Core.Path.{_≡_};
-ghost use mathlib.Core.Bool.{true};
 ghost use mathlib.Core.List.{_++_};
 ghost use Prim.Native.Nat.{_≤_, _<_};
 ghost use lib.ListN.{length, drop, replicate};
 ghost use lib.Seq.{sets};
 ghost use Rattle.spec.specs.Choice.{both};
 ghost use Rattle.spec.specs.Padding.{delayFor, padCount};
-ghost use Rattle.spec.specs.Answers.{writtenReport};
-ghost use Rattle.spec.specs.Sending.{goodSpeed, sends, delivered, sendOutcome, sendReport, sendAtOutcome, sendAtReport};
-ghost use Rattle.sending.specs.Steps.{CommandJudged, withPads, heldFor, goodRow, goodColumn, filledFor};
+ghost use Rattle.spec.specs.Answers.{writtenReport, filledReport};
+ghost use Rattle.spec.specs.Sending.{goodSpeed, sends, padded, delivered, sendOutcome, sendReport, sendAtOutcome, sendAtReport};
+ghost use Rattle.spec.specs.Sending.{filledAnswer, fillOutcome, fillReport, padOutcome, padReport};
+ghost use Rattle.sending.specs.Steps.{CommandJudged, apart, faultOr, withPads, heldFor, goodRow, goodColumn, filledFor};
 use compensations::FilledIn;
 use compensations::fill_in;
 use padding::Prefix;
@@ -17,6 +18,8 @@ use padding::pad_count;
 use padding::read_prefix;
 use places::ZERO;
 use places::both_unused;
+use spec::Fill;
+use spec::Finished;
 use spec::Refusal;
 use spec::Written;
 use spec::position::Column;
@@ -73,16 +76,13 @@ fn good_column(column: Column) -> bool
     column.0 <= LAST
 }
 
-fn good_inputs(row: Row, column: Column, lines: u64, speed: u64) -> bool
-    ensures { λ r. ⌜ r ≡ both (both (goodRow row) (goodColumn column)) (goodSpeed lines speed) ⌝ }
+fn good_place(row: Row, column: Column) -> bool
+    ensures { λ r. ⌜ r ≡ both (goodRow row) (goodColumn column) ⌝ }
 {
     if !good_row(row) {
         return false;
     }
-    if !good_column(column) {
-        return false;
-    }
-    good_speed(lines, speed)
+    good_column(column)
 }
 
 // "Times lines if starred."
@@ -101,27 +101,6 @@ fn pads_for(delay: u32, star: bool, lines: u64, speed: u64) -> usize
     ensures { λ r. ⌜ r ≡ padCount (delayFor delay star lines) speed ⌝ }
 {
     pad_count(delay_for(delay, star, lines), speed as u32) as usize
-}
-
-// A command whose inputs were judged and whose prefix was split off: the place where its body starts, and the count of its pads.
-enum Judged {
-    Body(usize, usize),
-    Refused(Refusal),
-}
-
-// "12 for the inputs, 13."
-fn judge(command: &[u8], in_range: bool, lines: u64, speed: u64) -> Judged
-    requires { ⌜ (in_range ≡ true → (lines ≤ 1000) × (speed ≤ 115200)) ⌝ }
-    ensures { λ r. ⌜ CommandJudged (now (command .entry)) in_range lines speed r ⌝ }
-{
-    if !in_range {
-        return Judged::Refused(Refusal::OutOfRange);
-    }
-    let prefix = read_prefix(command);
-    match prefix {
-        Prefix::BadPadding => Judged::Refused(Refusal::BadPadding),
-        Prefix::Split(delay, star, from) => Judged::Body(from, pads_for(delay, star, lines, speed)),
-    }
 }
 
 // "The pads are written into the room that is left", which is lent to this.
@@ -166,20 +145,91 @@ fn send_copied(bytes: &[u8], pads: usize, pad: u8, out: &mut [u8]) -> Written
     Written::Count(n + pads)
 }
 
-// Send: "body and padding".
+// Finished bytes and their delay: "then 12 for lines and speed, then 9".
+fn pad_bytes(
+    delay: u32,
+    star: bool,
+    bytes: &[u8],
+    lines: u64,
+    speed: u64,
+    pad: u8,
+    out: &mut [u8],
+) -> Written
+    requires { ⌜ delay < 100000 ⌝ }
+    ensures { λ r. ⌜ (r ≡ delivered (padded (apart delay star (now (bytes .entry))) lines speed pad) (now (out .entry)) .answer)
+        × (now (out .exit) ≡ delivered (padded (apart delay star (now (bytes .entry))) lines speed pad) (now (out .entry)) .buffer) ⌝ }
+{
+    if !good_speed(lines, speed) {
+        return Written::Refused(Refusal::OutOfRange);
+    }
+    send_copied(bytes, pads_for(delay, star, lines, speed), pad, out)
+}
+
+// Send: "body and padding". "For plain Send 13, 12, 9."
 pub fn send(command: &[u8], lines: u64, speed: u64, pad: u8, out: &mut [u8]) -> Written
     ensures { λ r. ⌜ (r ≡ sendOutcome (now (command .entry)) lines speed pad (now (out .entry)) .answer)
         × (now (out .exit) ≡ sendOutcome (now (command .entry)) lines speed pad (now (out .entry)) .buffer)
         × (writtenReport r ≡ sendReport (now (command .entry)) lines speed pad (now (out .entry))) ⌝ }
 {
-    let judged = judge(command, good_speed(lines, speed), lines, speed);
-    match judged {
-        Judged::Refused(r) => return Written::Refused(r),
-        Judged::Body(from, pads) => return send_copied(&command[from..], pads, pad, out),
+    let prefix = read_prefix(command);
+    match prefix {
+        Prefix::BadPadding => return Written::Refused(Refusal::BadPadding),
+        Prefix::Split(delay, star, from) => return pad_bytes(
+            delay,
+            star,
+            &command[from..],
+            lines,
+            speed,
+            pad,
+            out,
+        ),
     }
 }
 
+// The longest delay that a prefix can state, 9,999.9 ms, in tenths.
+const LONGEST_DELAY: u64 = 99999;
+
+// The second half of Send at, for what the first one gave. "A delay over 99,999 tenths before its star is 12 as well."
+pub fn pad(
+    delay: u64,
+    star: bool,
+    bytes: &[u8],
+    lines: u64,
+    speed: u64,
+    pad: u8,
+    out: &mut [u8],
+) -> Written
+    ensures { λ r. ⌜ (r ≡ padOutcome delay star (now (bytes .entry)) lines speed pad (now (out .entry)) .answer)
+        × (now (out .exit) ≡ padOutcome delay star (now (bytes .entry)) lines speed pad (now (out .entry)) .buffer)
+        × (writtenReport r ≡ padReport delay star (now (bytes .entry)) lines speed pad (now (out .entry))) ⌝ }
+{
+    if delay > LONGEST_DELAY {
+        return Written::Refused(Refusal::OutOfRange);
+    }
+    pad_bytes(delay as u32, star, bytes, lines, speed, pad, out)
+}
+
 // ---- Send at
+
+// A command for a place, with its prefix split off: the delay, its star, and where the body starts.
+enum Judged {
+    Body(u32, bool, usize),
+    Refused(Refusal),
+}
+
+// "12 for row and column, 13."
+fn judge(command: &[u8], in_range: bool) -> Judged
+    ensures { λ r. ⌜ CommandJudged (now (command .entry)) in_range r ⌝ }
+{
+    if !in_range {
+        return Judged::Refused(Refusal::OutOfRange);
+    }
+    let prefix = read_prefix(command);
+    match prefix {
+        Prefix::BadPadding => Judged::Refused(Refusal::BadPadding),
+        Prefix::Split(delay, star, from) => Judged::Body(delay, star, from),
+    }
+}
 
 // So many bytes are filled in beside the buffer, and then copied.
 const SMALL: usize = 128;
@@ -220,7 +270,21 @@ fn send_filled(
     }
 }
 
-// Send at "takes also a row, a column, a back string and an up string".
+// The first fault of a body; or 12, which comes next where lines or speed are out of their ranges.
+fn first_fault(body: &[u8], row: Row, column: Column, back: &[u8], up: &[u8]) -> Refusal
+    ensures { λ r. ⌜ r ≡ faultOr (filledFor (now (body .entry)) row column (now (back .entry)) (now (up .entry))) ⌝ }
+{
+    let mut nothing = [0u8; 0];
+    let measured = fill_in(body, both_unused(row, column), back, up, 0, &mut nothing);
+    match measured {
+        FilledIn::Fault(r) => return r,
+        FilledIn::NoRoom => return Refusal::OutOfRange,
+        FilledIn::Until(n) => return Refusal::OutOfRange,
+    }
+}
+
+// Send at "takes also a row, a column, a back string and an up string". "12 for row and column, 13, the body's faults, then 12 for lines and
+// speed, then 9."
 pub fn send_at(
     command: &[u8],
     row: u64,
@@ -238,18 +302,48 @@ pub fn send_at(
 {
     let r = Row(held_for(row));
     let c = Column(held_for(column));
-    let judged = judge(command, good_inputs(r, c, lines, speed), lines, speed);
+    let judged = judge(command, good_place(r, c));
     match judged {
         Judged::Refused(r) => return Written::Refused(r),
-        Judged::Body(from, pads) => return send_filled(
-            &command[from..],
-            r,
-            c,
-            back,
-            up,
-            pads,
-            pad,
-            out,
-        ),
+        Judged::Body(delay, star, from) => {
+            if !good_speed(lines, speed) {
+                return Written::Refused(first_fault(&command[from..], r, c, back, up));
+            }
+            let pads = pads_for(delay, star, lines, speed);
+            return send_filled(&command[from..], r, c, back, up, pads, pad, out);
+        }
+    }
+}
+
+// The answer of the first half, once its bytes are written or do not fit.
+fn filled_answer(delay: u32, star: bool, written: Written) -> Fill
+    ensures { λ r. ⌜ r ≡ filledAnswer delay star written ⌝ }
+{
+    match written {
+        Written::Refused(r) => Fill::Refused(r),
+        Written::Count(n) => Fill::Finished(Finished {
+            delay: delay,
+            star: star,
+            count: n,
+        }),
+    }
+}
+
+// The first half of Send at: the finished bytes go to the start of the buffer, the delay and its star into the answer.
+pub fn fill(command: &[u8], row: u64, column: u64, back: &[u8], up: &[u8], out: &mut [u8]) -> Fill
+    ensures { λ r. ⌜ (r ≡ fillOutcome (now (command .entry)) row column (now (back .entry)) (now (up .entry)) (now (out .entry)) .answer)
+        × (now (out .exit) ≡ fillOutcome (now (command .entry)) row column (now (back .entry)) (now (up .entry)) (now (out .entry)) .buffer)
+        × (filledReport r ≡ fillReport (now (command .entry)) row column (now (back .entry)) (now (up .entry)) (now (out .entry))) ⌝ }
+{
+    let held_row = Row(held_for(row));
+    let held_column = Column(held_for(column));
+    let judged = judge(command, good_place(held_row, held_column));
+    match judged {
+        Judged::Refused(r) => return Fill::Refused(r),
+        Judged::Body(delay, star, from) => {
+            // Without pads.
+            let written = send_filled(&command[from..], held_row, held_column, back, up, 0, 0, out);
+            return filled_answer(delay, star, written);
+        }
     }
 }

@@ -88,7 +88,7 @@ use Rattle.spec.specs.Values.{raisedFrom, raised, changed}
 use Rattle.spec.specs.Sequences.{readByte, perform}
 use Rattle.spec.specs.Position.{repeated, compensations, fillIn, plainOf}
 use Rattle.spec.specs.Padding.{tenths, prefixOf, padCount}
-use Rattle.spec.specs.Sending.{prepared, preparedAt, padsOf, outgoing, outgoingAt, delivered, sendOutcome, sendAtOutcome}
+use Rattle.spec.specs.Sending.{prepared, preparedAt, padsOf, delivered, sendOutcome, sendAtOutcome, fillOutcome, padOutcome}
 
 unfoldable pub computing : Unit {0}
 unfolding holds upto past laterPieces same among valueFrom areDigits leading trailing spell places written nameByte nameBytes goodName idByte isTc idBytes
@@ -102,6 +102,6 @@ unfolding holds upto past laterPieces same among valueFrom areDigits leading tra
     fieldReason isLink firstLink linkOf fieldPieces lineLink withLink linksAmong leads comesBack linkReason removedLinks reasonAt linkRemovals partsFrom
     partsOf keptBytes allKept endsInBackslash closed mendedLine partRecords mendLine mendLines mended descriptions tooManyLines flattened putMended
     repairOutcome raisedFrom raised changed readByte perform
-    repeated compensations fillIn plainOf tenths prefixOf padCount prepared preparedAt padsOf outgoing outgoingAt delivered sendOutcome
-    sendAtOutcome
+    repeated compensations fillIn plainOf tenths prefixOf padCount prepared preparedAt padsOf delivered sendOutcome sendAtOutcome fillOutcome
+    padOutcome
 computing = tt

@@ -13,7 +13,7 @@ marked-examples = refl
 
 pub rulings : Ruled
 unfolding computing
-rulings = (refl, refl, refl, refl, refl, refl)
+rulings = (refl, refl, refl, refl, refl, refl, refl)
 
 pub file-rulings : FilesRuled
 unfolding computing

@@ -17,6 +17,8 @@ use Rattle.spec.specs.declared.Searched.{Searched}
 use Rattle.spec.specs.declared.Searched.the-variants.{Found, Missing, Refused as NotSearched}
 use Rattle.spec.specs.declared.Repaired.{Repaired}
 use Rattle.spec.specs.declared.Repaired.the-variants.{Counts, Refused as NotRepaired}
+use Rattle.spec.specs.declared.Fill.{Fill}
+use Rattle.spec.specs.declared.Fill.the-variants.{Finished, Refused as NotFilled}
 
 pub record Outcome (A : Type 0) : Type 0 where
   pub answer : A
@@ -68,3 +70,8 @@ searchedReport (NotSearched r) = refusedReport r
 abbrev pub repairedReport : Repaired → Report
 repairedReport (Counts bytes records) = record { refusal = 0; values = bytes ∷ records ∷ [] }
 repairedReport (NotRepaired r) = refusedReport r
+
+-- Of the first half of Send at: the delay, 1 for a star and 0 for none, and the count of the finished bytes.
+abbrev pub filledReport : Fill → Report
+filledReport (Finished f) = record { refusal = 0; values = f .delay ∷ pick (f .star) 1 0 ∷ f .count ∷ [] }
+filledReport (NotFilled r) = refusedReport r

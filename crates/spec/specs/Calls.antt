@@ -3,16 +3,17 @@ use Prim.Native.Nat.{ℕ}
 use Prim.Native.Char.{code}
 use Prim.Native.String.{String as Chars}
 use mathlib.Core.Path.{_≡_}
+use mathlib.Core.Bool.{Bool}
 use mathlib.Core.List.{List, [], _∷_, _++_, map}
 use lib.ListN.{length, replicate}
 use Rattle.spec.specs.Files.{files, alone}
-use Rattle.spec.specs.Answers.{Outcome, keeping, Report, answerReport, writtenReport, repairedReport}
+use Rattle.spec.specs.Answers.{Outcome, keeping, Report, answerReport, writtenReport, repairedReport, filledReport}
 use Rattle.spec.specs.Questions.{showReport, flagReport, numberReport, stringOutcome}
 use Rattle.spec.specs.Listing.{listOutcome, flatOutcome}
 use Rattle.spec.specs.Batch.{batchOutcome}
 use Rattle.spec.specs.Search.{searchReport}
 use Rattle.spec.specs.Repair.{RepairOutcome, flattened, repairOutcome}
-use Rattle.spec.specs.Sending.{sendOutcome, sendAtOutcome}
+use Rattle.spec.specs.Sending.{sendOutcome, sendAtOutcome, fillOutcome, padOutcome}
 
 -- The bytes of a text in ASCII.
 abbrev pub ascii : Chars → List ℕ
@@ -20,7 +21,8 @@ ascii Chars.[] = []
 ascii (Chars._∷_ c s) = code c ∷ ascii s
 
 -- A call. Those with output have a buffer of so many bytes (the last number), all 255. A batch has its questions' bytes. Send is for so many
--- lines at a speed, with the pad byte 0; Send at for a row and a column, with a back and an up string, for one line at speed 0. Repair has
+-- lines at a speed, with the pad byte 0; Send at for a row and a column, with a back and an up string, for one line at speed 0, or for so many
+-- lines at a speed. Repair has
 -- two buffers, the second for its records; they are stated one after the other. Those that end in `In` are about files with these ends, the
 -- others about a single file.
 pub data Call : Type 0 where
@@ -40,6 +42,9 @@ pub data Call : Type 0 where
   repair : Chars → ℕ → ℕ → Call
   send : List ℕ → ℕ → ℕ → ℕ → Call
   sendAt : List ℕ → ℕ → ℕ → List ℕ → List ℕ → ℕ → Call
+  sendAtSpeed : List ℕ → ℕ → ℕ → List ℕ → List ℕ → ℕ → ℕ → ℕ → Call
+  fill : List ℕ → ℕ → ℕ → List ℕ → List ℕ → ℕ → Call
+  pad : ℕ → Bool → List ℕ → ℕ → ℕ → ℕ → Call
 
 abbrev pub reported : {A : Type 0} → (A → Report) → Outcome A → Outcome Report
 reported f o = record { answer = f (o .answer); buffer = o .buffer }
@@ -68,6 +73,9 @@ computed (searchIn db ends name) = keeping (searchReport (files (ascii db) ends)
 computed (repair db room more) = bothBuffers (repairOutcome (ascii db) (lent room) (lent more))
 computed (send cmd lines speed room) = reported writtenReport (sendOutcome cmd lines speed 0 (lent room))
 computed (sendAt cmd row column back up room) = reported writtenReport (sendAtOutcome cmd row column back up 1 0 0 (lent room))
+computed (sendAtSpeed cmd row column back up lines speed room) = reported writtenReport (sendAtOutcome cmd row column back up lines speed 0 (lent room))
+computed (fill cmd row column back up room) = reported filledReport (fillOutcome cmd row column back up (lent room))
+computed (pad delay star bytes lines speed room) = reported writtenReport (padOutcome delay star bytes lines speed 0 (lent room))
 
 -- What is stated: the values that are reported, the bytes that are written and after them those of the buffer that stay; or a refusal, and
 -- all stay.

@@ -1,8 +1,9 @@
 -- Readings of document 01's open points, as calls: docs/DECISIONS.md says which point each group is about, and why it is read so.
 use Prim.Native.Nat.{ℕ}
+use mathlib.Core.Bool.{true, false}
 use mathlib.Core.List.{List, [], _∷_, _++_}
 use lib.ListN.{replicate}
-use Rattle.spec.specs.Calls.{ascii, show, flag, number, string, list, flat, batch, repair, send, sendAt}
+use Rattle.spec.specs.Calls.{ascii, show, flag, number, string, list, flat, batch, repair, send, sendAt, sendAtSpeed, fill, pad}
 use Rattle.spec.specs.Calls.{asks, present, absent, refusedWith, reports, refuses, mends, Example, example, AllHold}
 use Rattle.spec.specs.Repair.{removalRecord}
 
@@ -243,14 +244,50 @@ paddingRulings =
     ∷ example (send (ascii "08") 1 9600 8) (reports (8 ∷ []) (replicate 8 0) 0)
     -- the tenth is multiplied by the lines too; percent signs are copied
     ∷ example (send (ascii "1.5*%d") 2 9600 5) (reports (5 ∷ []) (ascii "%d" ++ replicate 3 0) 0)
-    -- 12 for the inputs, also without padding, comes before 13, and 13 before the body
-    ∷ example (send (ascii "12345") 0 0 1) (refuses 12 1)
+    -- Send: 13, then 12 for lines and speed, also without padding, then 9 (document 02, Ask 7)
+    ∷ example (send (ascii "12345") 0 0 1) (refuses 13 1)
+    ∷ example (send (ascii "x") 0 0 0) (refuses 12 0)
     ∷ example (send (ascii "x") 1001 0 1) (refuses 12 1)
     ∷ example (send (ascii "x") 1 115201 1) (refuses 12 1)
-    ∷ example (sendAt (ascii "12345") 10000 0 [] [] 1) (refuses 12 1)
-    ∷ example (sendAt (ascii "12345%x") 0 0 [] [] 1) (refuses 13 1)
+    ∷ example (send (ascii "x") 1000 115200 0) (refuses 9 0)
+    ∷ []
+
+-- ---- Send at and its two halves (document 02, Ask 7)
+
+abbrev pub halfRulings : List Example
+halfRulings =
+    -- Send at: 12 for row and column, 13, the body's faults, 12 for lines and speed, 9
+    example (sendAtSpeed (ascii "12345%x") 10000 0 [] [] 0 0 0) (refuses 12 0)
+    ∷ example (sendAtSpeed (ascii "12345%x") 0 10000 [] [] 0 0 0) (refuses 12 0)
+    ∷ example (sendAtSpeed (ascii "12345%x") 0 0 [] [] 0 0 0) (refuses 13 0)
+    ∷ example (sendAtSpeed (ascii "%x") 0 0 [] [] 0 0 0) (refuses 10 0)
+    ∷ example (sendAtSpeed (ascii "%d%d%d") 0 0 [] [] 1 115201 0) (refuses 11 0)
+    ∷ example (sendAtSpeed (ascii "%d") 0 0 [] [] 0 0 0) (refuses 12 0)
+    ∷ example (sendAtSpeed (ascii "%d") 0 0 [] [] 1001 0 1) (refuses 12 1)
+    ∷ example (sendAtSpeed (ascii "%d") 0 0 [] [] 1 115201 1) (refuses 12 1)
+    ∷ example (sendAtSpeed (ascii "%d") 0 0 [] [] 1000 115200 0) (refuses 9 0)
     ∷ example (sendAt [] 9999 9999 [] [] 0) (reports (0 ∷ []) [] 0)
+    -- the first half gives the delay before its star, the star, and the bytes with their compensations
+    ∷ example (fill (ascii "5*%dA") 5 0 [] [] 3) (reports (50 ∷ 1 ∷ 2 ∷ []) (ascii "5A") 1)
+    ∷ example (fill (ascii "9999.9%.") 0 0 back up 2) (reports (99999 ∷ 0 ∷ 2 ∷ []) (1 ∷ ascii "U") 0)
+    ∷ example (fill [] 9999 9999 [] [] 0) (reports (0 ∷ 0 ∷ 0 ∷ []) [] 0)
+    -- 12 for row and column, 13, the body's faults, 9
+    ∷ example (fill (ascii "12345%x") 10000 0 [] [] 0) (refuses 12 0)
+    ∷ example (fill (ascii "12345%x") 0 0 [] [] 0) (refuses 13 0)
+    ∷ example (fill (ascii "%x") 0 0 [] [] 0) (refuses 10 0)
+    ∷ example (fill (ascii "%d%d") 10 10 [] [] 3) (refuses 9 3)
+    -- the second half reads no padding: a digit goes out, and so do a star and a percent sign
+    ∷ example (pad 50 true (ascii "5A") 2 9600 13) (reports (12 ∷ []) (ascii "5A" ++ replicate 10 0) 1)
+    ∷ example (pad 50 false (ascii "5*%d") 2 9600 9) (reports (9 ∷ []) (ascii "5*%d" ++ replicate 5 0) 0)
+    ∷ example (pad 99999 false [] 1 1 3) (reports (1 ∷ []) (0 ∷ []) 2)
+    -- 12 for a delay over 99,999 tenths, before its star, and for lines and speed; then 9
+    ∷ example (pad 100000 false (ascii "x") 1 0 4) (refuses 12 4)
+    ∷ example (pad 100000 true (ascii "x") 1 0 0) (refuses 12 0)
+    ∷ example (pad 0 false (ascii "x") 0 0 0) (refuses 12 0)
+    ∷ example (pad 0 false (ascii "x") 1 115201 0) (refuses 12 0)
+    ∷ example (pad 99999 true (ascii "x") 1000 0 0) (refuses 9 0)
     ∷ []
 
 abbrev pub Ruled : Type 0
 Ruled = AllHold lineRulings × AllHold fieldRulings × AllHold batchRulings × AllHold repairRulings × AllHold positionRulings × AllHold paddingRulings
+    × AllHold halfRulings

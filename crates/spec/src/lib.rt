@@ -109,7 +109,7 @@ pub enum Answer {
     Refused(Refusal),
 }
 
-// The answer of List, Flat, a batch, Send and Send at: the number of records, of answers, or of bytes, that were written.
+// The answer of List, Flat, a batch, Send, Send at and its second half: the number of records, of answers, or of bytes, that were written.
 pub enum Written {
     Count(usize),
     Refused(Refusal),
@@ -118,6 +118,20 @@ pub enum Written {
 // The answer of Repair: the bytes of the mended database, and the number of records.
 pub enum Repaired {
     Counts(usize, usize),
+    Refused(Refusal),
+}
+
+// What goes between the two halves of Send at: the delay in tenths of a millisecond, before its star; the star; and the count of the
+// finished bytes, which are at the start of the first half's buffer.
+pub struct Finished {
+    pub delay: u32,
+    pub star: bool,
+    pub count: usize,
+}
+
+// The answer of the first half of Send at.
+pub enum Fill {
+    Finished(Finished),
     Refused(Refusal),
 }
 

@@ -13,11 +13,15 @@ pub use reader::number as reader_number;
 pub use reader::open as reader_open;
 pub use reader::show as reader_show;
 pub use repair::repair;
+pub use sending::fill;
+pub use sending::pad;
 pub use sending::send;
 pub use sending::send_at;
 pub use show::show;
 pub use show::show_part;
 pub use spec::Answer;
+pub use spec::Fill;
+pub use spec::Finished;
 pub use spec::Kind;
 pub use spec::Refusal;
 pub use spec::Repaired;
@@ -32,8 +36,9 @@ ghost use Rattle.spec.specs.Search.{searchReport};
 ghost use Rattle.spec.specs.Listing.{listOutcome, listReport, flatOutcome, flatReport};
 ghost use Rattle.spec.specs.Batch.{batchOutcome, batchReport};
 ghost use Rattle.spec.specs.Repair.{repairOutcome, repairReport};
-ghost use Rattle.spec.specs.Sending.{sendOutcome, sendReport, sendAtOutcome, sendAtReport};
-ghost use Rattle.termcap.specs.Results.{resultOf, storedValue, storedLength, storedSecond};
+ghost use Rattle.spec.specs.Choice.{pick};
+ghost use Rattle.spec.specs.Sending.{sendOutcome, sendReport, sendAtOutcome, sendAtReport, fillOutcome, fillReport, padOutcome, padReport};
+ghost use Rattle.termcap.specs.Results.{resultOf, storedValue, storedLength, storedSecond, storedThird, hasStar};
 
 // The result of a question; a value is stored if it is present.
 fn give_answer(a: Answer, value: &mut u64) -> u32
@@ -358,6 +363,68 @@ pub extern "C" fn termcap_send_at(
 {
     give_count(
         send_at(command, row, column, back, up, lines, speed, pad, out),
+        count,
+    )
+}
+
+// How a star is stored.
+fn star_number(star: bool) -> u64
+    ensures { λ r. ⌜ r ≡ pick star 1 0 ⌝ }
+{
+    if star {
+        return 1;
+    }
+    0
+}
+
+// The first half of Send at: `out` gets the finished bytes, of which there are `count`; their delay is in tenths of a millisecond, before its star.
+#[no_mangle]
+pub extern "C" fn termcap_fill(
+    command: &[u8],
+    row: u64,
+    column: u64,
+    back: &[u8],
+    up: &[u8],
+    out: &mut [u8],
+    delay: &mut u64,
+    star: &mut u64,
+    count: &mut u64,
+) -> u32
+    ensures { λ r. ⌜ (r ≡ resultOf (fillReport (now (command .entry)) row column (now (back .entry)) (now (up .entry)) (now (out .entry))))
+        × (now (out .exit) ≡ fillOutcome (now (command .entry)) row column (now (back .entry)) (now (up .entry)) (now (out .entry)) .buffer)
+        × (now (delay .exit) ≡ storedValue (fillReport (now (command .entry)) row column (now (back .entry)) (now (up .entry)) (now (out .entry))) (now (delay .entry)))
+        × (now (star .exit) ≡ storedSecond (fillReport (now (command .entry)) row column (now (back .entry)) (now (up .entry)) (now (out .entry))) (now (star .entry)))
+        × (now (count .exit) ≡ storedThird (fillReport (now (command .entry)) row column (now (back .entry)) (now (up .entry)) (now (out .entry))) (now (count .entry))) ⌝ }
+{
+    match fill(command, row, column, back, up, out) {
+        Fill::Finished(f) => {
+            *delay = f.delay as u64;
+            *star = star_number(f.star);
+            *count = f.count as u64;
+            0
+        }
+        Fill::Refused(r) => r.number() as u32,
+    }
+}
+
+// The second half of Send at; any star but 0 is one.
+#[no_mangle]
+pub extern "C" fn termcap_pad(
+    delay: u64,
+    star: u64,
+    bytes: &[u8],
+    lines: u64,
+    speed: u64,
+    pad: u8,
+    out: &mut [u8],
+    count: &mut u64,
+) -> u32
+    ensures { λ r. ⌜ (r ≡ resultOf (padReport delay (hasStar star) (now (bytes .entry)) lines speed pad (now (out .entry))))
+        × (now (out .exit) ≡ padOutcome delay (hasStar star) (now (bytes .entry)) lines speed pad (now (out .entry)) .buffer)
+        × (now (count .exit) ≡ storedValue (padReport delay (hasStar star) (now (bytes .entry)) lines speed pad (now (out .entry))) (now (count .entry))) ⌝ }
+{
+    give_count(
+        sending::pad(delay, star != 0, bytes, lines, speed, pad, out),
         count,
     )
 }

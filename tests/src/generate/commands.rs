@@ -4,16 +4,22 @@ use crate::case::{Case, Operation};
 use crate::random::Random;
 
 pub fn fill_in(random: &mut Random, case: &mut Case) {
-    if case.operation == Operation::SendAt {
+    if case.operation.takes_position() {
         case.row = position(random);
         case.column = position(random);
         case.back = step_string(random);
         case.up = step_string(random);
     }
-    case.lines = lines(random);
-    case.speed = speed(random);
-    let any = random.byte();
-    case.pad = random.pick_value(&[0, 0, 127, 128, b'%', b'5', any]);
+    if case.operation.takes_speed() {
+        case.lines = lines(random);
+        case.speed = speed(random);
+        let any = random.byte();
+        case.pad = random.pick_value(&[0, 0, 127, 128, b'%', b'5', any]);
+    }
+    if case.operation == Operation::Pad {
+        case.delay = delay(random);
+        case.star = random.pick_value(&[0, 0, 0, 1, 1, 2, 1 << 32, u64::MAX]);
+    }
     case.command = padding_prefix(random);
     let body = body(random, case);
     case.command.extend_from_slice(&body);
@@ -81,6 +87,20 @@ fn speed(random: &mut Random) -> u64 {
     }
 }
 
+/// In tenths, handed to the second half.
+fn delay(random: &mut Random) -> u64 {
+    const EDGES: [u64; 6] = [99_990, 99_998, 99_999, 99_999, 1, 10];
+    const OUTSIDE: [u64; 7] =
+        [100_000, 100_000, 100_001, 1 << 17, 1 << 32, (1 << 32) + 50, u64::MAX];
+    match random.weighted(&[24, 50, 8, 12, 6]) {
+        0 => 0,
+        1 => random.between(1, 2_000),
+        2 => random.between(1, 99_999),
+        3 => random.pick_value(&EDGES),
+        _ => random.pick_value(&OUTSIDE),
+    }
+}
+
 fn padding_prefix(random: &mut Random) -> Vec<u8> {
     const EDGES: [&[u8]; 34] = [
         b"5.", b"5.*", b"5*.3", b"5**", b"1.2.3", b"1.23", b"1.23*", b"12345", b"00001", b"0000",
@@ -106,7 +126,7 @@ fn padding_prefix(random: &mut Random) -> Vec<u8> {
 }
 
 fn body(random: &mut Random, case: &Case) -> Vec<u8> {
-    if case.operation == Operation::SendAt {
+    if case.operation.takes_position() {
         match random.weighted(&[8, 8, 20, 64]) {
             0 => return overflow(random, case),
             1 => return negative(random, case),
