@@ -1,16 +1,18 @@
 -- Demand 1 holds of the operations with output. Assumes nothing.
-use Prim.Native.Nat.{ℕ, _*_}
+use Prim.Native.Nat.{ℕ, _*_, _/_, _%_, _≤_}
 use mathlib.Core.Path.{_≡_, refl, sym, ap, _∙_}
 use mathlib.Core.Bool.{Bool, true, false}
-use mathlib.Core.List.{List, _++_}
+use mathlib.Core.List.{List, [], _∷_, _++_}
 use native.Mathlib.Omega.{arith}
 use borrow.Author.Tests.{leb-true}
-use lib.Dec.{leb}
+use lib.Dec.{eqb, leb}
 use lib.ListN.{length, drop, length-append, length-drop}
 use lib.Seq.{drop-at}
-use Rattle.spec.specs.Choice.{pick}
+use Rattle.spec.specs.Choice.{pick, both}
+use Rattle.spec.specs.Refusals.{goodName, tooLarge}
+use Rattle.spec.specs.Files.{Files, goodEnds, contents}
 use Rattle.spec.specs.Fields.{reading}
-use Rattle.spec.specs.Chain.{Terminal, refused, terminal}
+use Rattle.spec.specs.Chain.{Terminal, refused, terminal, resolve}
 use Rattle.spec.specs.Lookup.{Hit, none, hit, lookup, winning, bytesOf}
 use Rattle.spec.specs.Answers.{Outcome, keeping, put}
 use Rattle.spec.specs.Questions.{terminalOf, terminalFor, presented, decodedOutcome, stringFor, stringOutcome}
@@ -34,17 +36,21 @@ use Rattle.spec.specs.Sending.{
   handed,
   padOutcome,
 }
+use Rattle.spec.specs.Batch.{batchAnswer, answerBytes, batchAnswers, batchOutcome}
+use Rattle.spec.specs.Repair.{mended, flattened, notRepaired, putMended, tooManyLines, repairOutcome}
+use Rattle.spec.proofs.Tests.{pick-all, pick-told, both-true}
+use Rattle.spec.proofs.RecordRoom.{mended-sixteen}
 use Rattle.spec.proofs.Winning.{winning-wins}
 use Rattle.spec.proofs.Records.{records-length}
 use Rattle.spec.specs.declared.Refusal.{Refusal}
-use Rattle.spec.specs.declared.Refusal.the-variants.{NoRoom}
+use Rattle.spec.specs.declared.Refusal.the-variants.{BadName, DatabaseTooLarge, NoRoom, TooManyLines, PartialQuestion, BadEnds}
 use Rattle.spec.specs.declared.Answer.{Answer}
 use Rattle.spec.specs.declared.Answer.the-variants.{Present, Absent, Refused as NotAnswered}
 use Rattle.spec.specs.declared.Written.{Written}
 use Rattle.spec.specs.declared.Written.the-variants.{Count, Refused}
 use Rattle.spec.specs.declared.Fill.{Fill}
 use Rattle.spec.specs.declared.Fill.the-variants.{Refused as NotFilled}
-use Rattle.demands.specs.Demand1.{OnlyFirst, Writes, Answers, Fills, Demand1}
+use Rattle.demands.specs.Demand1.{OnlyFirst, Writes, Answers, Fills, Repairs, Demand1}
 
 -- ---- a buffer that is kept
 
@@ -52,6 +58,13 @@ kept : (size : ℕ) (r : Refusal) (buffer : List ℕ) → Writes size buffer (ke
 kept size r buffer = record { refused = λ s e. refl; accepted = λ n e. let z : _≡_ {A = ℕ} 0 1 = cc in absurd (omega arith) }
 
 -- ---- bytes that are put at a buffer's start, and reported as n things
+
+front : (bytes buffer : List ℕ) → length bytes ≤ length buffer → OnlyFirst (length bytes) buffer (bytes ++ drop (length bytes) buffer)
+front bytes buffer fits = record {
+  fit = fits;
+  as-long = length-append bytes (drop (length bytes) buffer) ∙ rw (length-drop (length bytes) buffer) (omega (arith, fits));
+  rest = drop-at bytes (drop (length bytes) buffer) (length bytes) refl;
+}
 
 written : (size : ℕ) (bytes : List ℕ) (n : ℕ) (buffer : List ℕ) → length bytes ≡ size * n → Writes size buffer (put bytes n buffer)
 unfolding put
@@ -61,17 +74,10 @@ written size bytes n buffer whole = go (leb (length bytes) (length buffer)) refl
     full = record { answer = Count n; buffer = bytes ++ drop (length bytes) buffer }
 
     go : (t : Bool) → leb (length bytes) (length buffer) ≡ t → Writes size buffer (pick t full (keeping (Refused NoRoom) buffer))
-    go true e =
-        let fits = leb-true (length bytes) (length buffer) e in
-        let only : OnlyFirst (length bytes) buffer (bytes ++ drop (length bytes) buffer) = record {
-          fit = fits;
-          as-long = length-append bytes (drop (length bytes) buffer) ∙ rw (length-drop (length bytes) buffer) (omega (arith, fits));
-          rest = drop-at bytes (drop (length bytes) buffer) (length bytes) refl;
-        } in
-        record {
-          refused = λ r f. let z : _≡_ {A = ℕ} 0 1 = cc in absurd (omega arith);
-          accepted = λ m f. let same : n ≡ m = cc in rw (← same, ← whole) only;
-        }
+    go true e = record {
+      refused = λ r f. let z : _≡_ {A = ℕ} 0 1 = cc in absurd (omega arith);
+      accepted = λ m f. let same : n ≡ m = cc in rw (← same, ← whole) (front bytes buffer (leb-true (length bytes) (length buffer) e));
+    }
     go false e = kept size NoRoom buffer
 
 delivered-writes : (x : Outgoing) (buffer : List ℕ) → Writes 1 buffer (delivered x buffer)
@@ -161,12 +167,77 @@ unfolding flatFor
 flat-writes (refused r) buffer = kept 1 r buffer
 flat-writes (terminal names fs) buffer = written 1 (flatText names fs) (length (flatText names fs)) buffer (omega arith)
 
+-- ---- a batch
+
+answers-size : (t : Terminal) (l : List ℕ) → length (batchAnswers t l) ≡ 8 * (length l / 4)
+unfolding batchAnswers
+answers-size t [] = omega arith
+answers-size t (a ∷ []) = omega arith
+answers-size t (a ∷ b ∷ []) = omega arith
+answers-size t (a ∷ b ∷ k ∷ []) = omega arith
+answers-size t (a ∷ b ∷ k ∷ z ∷ l) =
+    let x = batchAnswer t a b k z in
+    omega (arith, length-append (answerBytes x) (batchAnswers t l), eight x, answers-size t l)
+  where
+    eight : (x : Answer) → length (answerBytes x) ≡ 8
+    eight (Present v) = refl
+    eight Absent = refl
+    eight (NotAnswered r) = refl
+
+batch-writes : (db : Files) (name questions buffer : List ℕ) → Writes 8 buffer (batchOutcome db name questions buffer)
+unfolding batchOutcome
+batch-writes db name questions buffer =
+    let t = resolve (contents db) name in
+    let answers = written 8 (batchAnswers t questions) (length questions / 4) buffer (answers-size t questions) in
+    pick-all (Writes 8 buffer) (goodEnds db)
+    (pick-all (Writes 8 buffer) (goodName name)
+    (pick-all (Writes 8 buffer) (tooLarge (db .bytes)) (kept 8 DatabaseTooLarge buffer)
+    (pick-all (Writes 8 buffer) (eqb (length questions % 4) 0) answers (kept 8 PartialQuestion buffer)))
+    (kept 8 BadName buffer))
+    (kept 8 BadEnds buffer)
+
+-- ---- Repair
+
+not-repaired : (r : Refusal) (text records : List ℕ) → Repairs text records (notRepaired r text records)
+not-repaired r text records = record {
+  refused = λ s e. (refl, refl);
+  accepted = λ bytes n e. let z : _≡_ {A = ℕ} 0 1 = cc in absurd (omega arith);
+}
+
+mended-repairs : (db text records : List ℕ) → Repairs text records (putMended (mended db) text records)
+unfolding putMended
+mended-repairs db text records =
+    let m = mended db in
+    let flat = flattened (m .records) in
+    pick-told (Repairs text records) (both (leb (length (m .text)) (length text)) (leb (length flat) (length records)))
+    (λ t.
+    let h = both-true (leb (length (m .text)) (length text)) (leb (length flat) (length records)) t in
+    record {
+      refused = λ r e. let z : _≡_ {A = ℕ} 0 1 = cc in absurd (omega arith);
+      accepted = λ bytes n e.
+          let b : length (m .text) ≡ bytes = cc in
+          let c : length (m .records) ≡ n = cc in
+          let size : length flat ≡ 16 * n = omega (arith, mended-sixteen db, c) in (
+            rw (← b) (front (m .text) text (leb-true (length (m .text)) (length text) (h .0))),
+            rw (← size) (front flat records (leb-true (length flat) (length records) (h .1))),
+          );
+    })
+    (λ t. not-repaired NoRoom text records)
+
+repair-repairs : (db text records : List ℕ) → Repairs text records (repairOutcome db text records)
+unfolding repairOutcome
+repair-repairs db text records =
+    pick-all (Repairs text records) (tooLarge db) (not-repaired DatabaseTooLarge text records)
+    (pick-all (Repairs text records) (tooManyLines db) (not-repaired TooManyLines text records) (mended-repairs db text records))
+
 pub demand-1 : Demand1
 unfolding stringOutcome listOutcome flatOutcome sendOutcome sendAtOutcome fillOutcome padOutcome
 demand-1 = record {
   string = λ db name id buffer. string-answers id (terminalFor db name id) buffer;
   list = λ db name buffer. list-writes (terminalOf db name) buffer;
   flat = λ db name buffer. flat-writes (terminalOf db name) buffer;
+  batch = batch-writes;
+  repair = repair-repairs;
   send = λ cmd lines speed pad buffer. delivered-writes (padded (prepared cmd) lines speed pad) buffer;
   send-at = λ cmd row column back up lines speed pad buffer. delivered-writes (padded (preparedAt cmd row column back up) lines speed pad) buffer;
   fill = λ cmd row column back up buffer. filled-fills (preparedAt cmd row column back up) buffer;

@@ -33,6 +33,7 @@ use Rattle.spec.specs.Chain.{Field, placed, texts, Terminal, refused, terminal}
 use Rattle.spec.specs.Lookup.{canWin, hidden, winningAfter, winning}
 use Rattle.spec.specs.Answers.{Outcome, put}
 use Rattle.spec.specs.Questions.{terminalOf, terminalFor, answerFor, stringFor, shown, showAnswer, flagAnswer, numberAnswer, stringOutcome}
+use Rattle.spec.specs.Batch.{batchOutcome}
 use Rattle.spec.specs.Listing.{recordOf, records, listFor, flatFor, listOutcome, flatOutcome}
 use Rattle.spec.specs.declared.Found.{Found}
 use Rattle.spec.specs.declared.Found.the-variants.{At, Nothing}
@@ -62,6 +63,7 @@ use Rattle.demands.specs.OneFile.{
   namesAt,
   terminalAt,
   terminalBefore,
+  batchBefore,
   askedBefore,
   shownBefore,
   showBefore,
@@ -161,6 +163,10 @@ module _ (db : List ℕ) where
   pub terminal-alone : (name : List ℕ) → terminalOf (alone db) name ≡ terminalBefore db name
   unfolding terminalOf terminalBefore
   terminal-alone name = rw (good-alone db, contents-alone db, resolve-alone name)
+
+  batch-alone : (name questions buffer : List ℕ) → batchOutcome (alone db) name questions buffer ≡ batchBefore db name questions buffer
+  unfolding batchOutcome batchBefore
+  batch-alone name questions buffer = rw (good-alone db, contents-alone db, resolve-alone name)
 
   asked-alone : (name id : List ℕ) → terminalFor (alone db) name id ≡ askedBefore db name id
   unfolding terminalFor askedBefore
@@ -286,5 +292,6 @@ one-file db name =
       number = λ id. ap (answerFor id Number) (asked-alone db name id);
       string = λ id buffer. ap (λ (t : Terminal). stringFor id t buffer) (asked-alone db name id);
       flat = λ buffer. ap (λ (t : Terminal). flatFor t buffer) (terminal-alone db name);
+      batch = batch-alone db name;
       list = rw (terminal-alone db name) (list-before (terminalBefore db name) (first-before db name));
     }

@@ -1,11 +1,11 @@
 -- Bytes after the last end are not read. Assumes nothing.
-use Prim.Native.Nat.{ℕ, zero, suc, _+_, _-_, _≤_, _<_}
+use Prim.Native.Nat.{ℕ, zero, suc, _+_, _-_, _/_, _%_, _≤_, _<_}
 use mathlib.Core.Path.{_≡_, refl, _∙_, ap, sym}
 use mathlib.Core.Bool.{Bool, true, false}
 use mathlib.Core.List.{List, [], _∷_}
 use native.Mathlib.Omega.{arith}
 use borrow.Author.Tests.{leb-true}
-use lib.Dec.{leb}
+use lib.Dec.{eqb, leb}
 use lib.ListN.{length, take, drop, getD}
 use lib.Seq.{take-take}
 use Rattle.spec.specs.Choice.{pick, between}
@@ -16,13 +16,18 @@ use Rattle.spec.specs.Files.{files, rising, goodEnds, cutAt, contents, fileStar
 use Rattle.spec.specs.Chain.{Terminal, refused, resolve}
 use Rattle.spec.specs.Questions.{terminalOf, terminalFor, answerFor, stringFor, shown, showAnswer, shownBytes, flagAnswer, numberAnswer, stringOutcome}
 use Rattle.spec.specs.Search.{allNames, compared, told, searchAnswer}
+use Rattle.spec.specs.Answers.{Outcome, keeping, put}
 use Rattle.spec.specs.Listing.{listFor, flatFor, listOutcome, flatOutcome}
+use Rattle.spec.specs.Batch.{batchAnswers, batchOutcome}
 use Rattle.spec.specs.declared.Located.{Located}
 use Rattle.spec.specs.declared.Located.the-variants.{At, Nothing}
 use Rattle.spec.specs.declared.Kind.the-variants.{Flag, Number}
-use Rattle.spec.specs.declared.Refusal.the-variants.{BadName, DatabaseTooLarge, BadEnds}
+use Rattle.spec.specs.declared.Refusal.{Refusal}
+use Rattle.spec.specs.declared.Refusal.the-variants.{BadName, DatabaseTooLarge, PartialQuestion, BadEnds}
 use Rattle.spec.specs.declared.Searched.{Searched}
 use Rattle.spec.specs.declared.Searched.the-variants.{Refused as NotSearched}
+use Rattle.spec.specs.declared.Written.{Written}
+use Rattle.spec.specs.declared.Written.the-variants.{Refused as NotWritten}
 use Rattle.spec.specs.declared.Shown.{Shown}
 use Rattle.spec.specs.declared.Shown.the-variants.{Refused as NotShown}
 use Rattle.spec.proofs.Tests.{both-true}
@@ -122,6 +127,28 @@ module _ (a b ends : List ℕ) (long : length a ≡ length b) (agree : take (las
       go true g = rw (contents-same g)
       go false g = refl
 
+  -- ---- a batch
+
+  batch-same : (name questions buffer : List ℕ) → batchOutcome (files a ends) name questions buffer ≡ batchOutcome (files b ends) name questions buffer
+  unfolding batchOutcome
+  batch-same name questions buffer = rw (← good-same, large-same) (go (goodEnds (files a ends)) refl)
+    where
+      refusing : Refusal → Outcome Written
+      refusing r = keeping (NotWritten r) buffer
+
+      in-order : Terminal → Outcome Written
+      in-order t =
+          pick (goodName name)
+          (pick (tooLarge b) (refusing DatabaseTooLarge)
+          (pick (eqb (length questions % 4) 0) (put (batchAnswers t questions) (length questions / 4) buffer) (refusing PartialQuestion)))
+          (refusing BadName)
+
+      go : (x : Bool) → goodEnds (files a ends) ≡ x
+          → pick x (in-order (resolve (contents (files a ends)) name)) (refusing BadEnds)
+          ≡ pick x (in-order (resolve (contents (files b ends)) name)) (refusing BadEnds)
+      go true g = rw (contents-same g)
+      go false g = refl
+
   -- ---- Show
 
   start-same : (k : ℕ) → fileStart (files a ends) k ≡ fileStart (files b ends) k
@@ -177,4 +204,5 @@ unread a b ends long agree = record {
   string = λ name id buffer. ap (λ (t : Terminal). stringFor id t buffer) (asked-same a b ends long agree name id);
   list = λ name buffer. ap (λ (t : Terminal). listFor t buffer) (terminal-same a b ends long agree name);
   flat = λ name buffer. ap (λ (t : Terminal). flatFor t buffer) (terminal-same a b ends long agree name);
+  batch = batch-same a b ends long agree;
 }

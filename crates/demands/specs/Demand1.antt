@@ -9,12 +9,15 @@ use Rattle.spec.specs.Files.{Files}
 use Rattle.spec.specs.Answers.{Outcome}
 use Rattle.spec.specs.Questions.{stringOutcome}
 use Rattle.spec.specs.Listing.{listOutcome, flatOutcome}
+use Rattle.spec.specs.Batch.{batchOutcome}
+use Rattle.spec.specs.Repair.{RepairOutcome, repairOutcome}
 use Rattle.spec.specs.Sending.{sendOutcome, sendAtOutcome, fillOutcome, padOutcome}
 use Rattle.spec.specs.declared.Refusal.{Refusal}
 use Rattle.spec.specs.declared.Answer.{Answer}
 use Rattle.spec.specs.declared.Answer.the-variants.{Present, Absent, Refused as NotAnswered}
 use Rattle.spec.specs.declared.Written.{Written}
 use Rattle.spec.specs.declared.Written.the-variants.{Count, Refused}
+use Rattle.spec.specs.declared.Repaired.the-variants.{Counts, Refused as NotRepaired}
 use Rattle.spec.specs.declared.Finished.{Finished}
 use Rattle.spec.specs.declared.Fill.{Fill}
 use Rattle.spec.specs.declared.Fill.the-variants.{Finished as Filled, Refused as NotFilled}
@@ -41,11 +44,18 @@ pub record Fills (buffer : List ℕ) (o : Outcome Fill) : Type 0 where
   pub refused : (r : Refusal) → o .answer ≡ NotFilled r → o .buffer ≡ buffer
   pub accepted : (f : Finished) → o .answer ≡ Filled f → OnlyFirst (f .count) buffer (o .buffer)
 
+-- Repair, which has two buffers: so many bytes of the one, and records of 16 bytes in the other.
+pub record Repairs (text records : List ℕ) (o : RepairOutcome) : Type 0 where
+  pub refused : (r : Refusal) → o .answer ≡ NotRepaired r → (o .text ≡ text) × (o .records ≡ records)
+  pub accepted : (bytes n : ℕ) → o .answer ≡ Counts bytes n → OnlyFirst bytes text (o .text) × OnlyFirst (16 * n) records (o .records)
+
 -- THE STATEMENT, for every input. Its proof is proofs/Demand1.
 pub record Demand1 : Type 0 where
   pub string : (db : Files) (name id buffer : List ℕ) → Answers buffer (stringOutcome db name id buffer)
   pub list : (db : Files) (name buffer : List ℕ) → Writes 12 buffer (listOutcome db name buffer)
   pub flat : (db : Files) (name buffer : List ℕ) → Writes 1 buffer (flatOutcome db name buffer)
+  pub batch : (db : Files) (name questions buffer : List ℕ) → Writes 8 buffer (batchOutcome db name questions buffer)
+  pub repair : (db text records : List ℕ) → Repairs text records (repairOutcome db text records)
   pub send : (cmd : List ℕ) (lines speed pad : ℕ) (buffer : List ℕ) → Writes 1 buffer (sendOutcome cmd lines speed pad buffer)
   pub send-at : (cmd : List ℕ) (row column : ℕ) (back up : List ℕ) (lines speed pad : ℕ) (buffer : List ℕ)
       → Writes 1 buffer (sendAtOutcome cmd row column back up lines speed pad buffer)

@@ -1,6 +1,6 @@
 -- Ask 5: "With one file that fills the buffer every answer is as before, that tail and its room apart." What was before: document 01's walk
 -- over one database, where a line is known by its place alone, and its record of 8 bytes.
-use Prim.Native.Nat.{ℕ, zero, suc, _+_}
+use Prim.Native.Nat.{ℕ, zero, suc, _+_, _/_, _%_}
 use mathlib.Core.Path.{_≡_}
 use mathlib.Core.Bool.{Bool, false}
 use mathlib.Core.List.{List, [], _∷_, _++_, map}
@@ -32,12 +32,13 @@ use Rattle.spec.specs.Chain.{Field, placed, Terminal, refused, terminal}
 use Rattle.spec.specs.Lookup.{winning}
 use Rattle.spec.specs.Answers.{Outcome, keeping, put}
 use Rattle.spec.specs.Questions.{answerFor, stringFor, showAnswer, flagAnswer, numberAnswer, stringOutcome}
+use Rattle.spec.specs.Batch.{batchAnswers, batchOutcome}
 use Rattle.spec.specs.Listing.{fourBytes, flatFor, listOutcome, flatOutcome}
 use Rattle.spec.specs.declared.Found.{Found}
 use Rattle.spec.specs.declared.Found.the-variants.{At, Nothing}
 use Rattle.spec.specs.declared.Kind.the-variants.{Flag, Number}
 use Rattle.spec.specs.declared.Refusal.{Refusal}
-use Rattle.spec.specs.declared.Refusal.the-variants.{BadName, BadId, DatabaseTooLarge, UnknownName, LostLink, Malformed, Cycle, ChainTooLarge}
+use Rattle.spec.specs.declared.Refusal.the-variants.{BadName, BadId, DatabaseTooLarge, UnknownName, LostLink, Malformed, Cycle, ChainTooLarge, PartialQuestion}
 use Rattle.spec.specs.declared.Written.{Written}
 use Rattle.spec.specs.declared.Written.the-variants.{Refused}
 use Rattle.spec.specs.declared.Shown.{Shown}
@@ -94,6 +95,17 @@ unfoldable pub terminalBefore : List ℕ → List ℕ → Terminal
 terminalBefore db name =
     pick (goodName name) (pick (tooLarge db) (refused DatabaseTooLarge) (terminalAt db (followed db 32 [] 0 UnknownName (findLine db name)))) (refused BadName)
 
+-- A batch of questions: 1, 3, 15, then 9.
+unfoldable pub batchBefore : List ℕ → List ℕ → List ℕ → List ℕ → Outcome Written
+batchBefore db name questions buffer =
+    let walked = terminalAt db (followed db 32 [] 0 UnknownName (findLine db name)) in
+    pick (goodName name)
+    (pick (tooLarge db) (keeping (Refused DatabaseTooLarge) buffer)
+    (pick (eqb (length questions % 4) 0)
+    (put (batchAnswers walked questions) (length questions / 4) buffer)
+    (keeping (Refused PartialQuestion) buffer)))
+    (keeping (Refused BadName) buffer)
+
 unfoldable pub askedBefore : List ℕ → List ℕ → List ℕ → Terminal
 askedBefore db name id = pick (goodName name) (pick (goodId id) (terminalBefore db name) (refused BadId)) (refused BadName)
 
@@ -134,6 +146,7 @@ pub record AsBefore (db name : List ℕ) : Type 0 where
   pub number : (id : List ℕ) → numberAnswer (alone db) name id ≡ answerFor id Number (askedBefore db name id)
   pub string : (id buffer : List ℕ) → stringOutcome (alone db) name id buffer ≡ stringFor id (askedBefore db name id) buffer
   pub flat : (buffer : List ℕ) → flatOutcome (alone db) name buffer ≡ flatFor (terminalBefore db name) buffer
+  pub batch : (questions buffer : List ℕ) → batchOutcome (alone db) name questions buffer ≡ batchBefore db name questions buffer
   -- with room for each, the records have that tail, and the answers, refusals too, are the same
   pub list : (buffer before : List ℕ) → HasRoom (listOutcome (alone db) name buffer .answer) → HasRoom (listForBefore (terminalBefore db name) before .answer)
       → (listOutcome (alone db) name buffer .answer ≡ listForBefore (terminalBefore db name) before .answer)

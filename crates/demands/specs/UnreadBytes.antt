@@ -7,6 +7,7 @@ use Rattle.spec.specs.Files.{Files, files}
 use Rattle.spec.specs.Questions.{showAnswer, shownBytes, flagAnswer, numberAnswer, stringOutcome}
 use Rattle.spec.specs.Search.{searchAnswer}
 use Rattle.spec.specs.Listing.{listOutcome, flatOutcome}
+use Rattle.spec.specs.Batch.{batchOutcome}
 
 -- The last end, and 0 where there is none.
 unfoldable pub lastEnd : List ℕ → ℕ
@@ -24,6 +25,7 @@ pub record SameAnswers (db other : Files) : Type 0 where
   pub string : (name id buffer : List ℕ) → stringOutcome db name id buffer ≡ stringOutcome other name id buffer
   pub list : (name buffer : List ℕ) → listOutcome db name buffer ≡ listOutcome other name buffer
   pub flat : (name buffer : List ℕ) → flatOutcome db name buffer ≡ flatOutcome other name buffer
+  pub batch : (name questions buffer : List ℕ) → batchOutcome db name questions buffer ≡ batchOutcome other name questions buffer
 
 -- THE STATEMENT. Its proof is proofs/UnreadBytes.
 abbrev pub Unread : Type 0
