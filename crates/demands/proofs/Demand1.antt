@@ -5,9 +5,9 @@ use mathlib.Core.Bool.{Bool, true, false}
 use mathlib.Core.List.{List, [], _∷_, _++_}
 use native.Mathlib.Omega.{arith}
 use borrow.Author.Tests.{leb-true}
-use lib.Dec.{eqb, leb}
-use lib.ListN.{length, drop, length-append, length-drop}
-use lib.Seq.{drop-at}
+use lib.Dec.{eqb, ltb, leb}
+use lib.ListN.{length, take, drop, length-append, length-drop}
+use lib.Seq.{drop-at, length-take-le}
 use Rattle.spec.specs.Choice.{pick, both}
 use Rattle.spec.specs.Refusals.{goodName, tooLarge}
 use Rattle.spec.specs.Files.{Files, goodEnds, contents}
@@ -37,13 +37,25 @@ use Rattle.spec.specs.Sending.{
   padOutcome,
 }
 use Rattle.spec.specs.Batch.{batchAnswer, answerBytes, batchAnswers, batchOutcome}
+use Rattle.spec.specs.Finder.{finderOutcome}
 use Rattle.spec.specs.Repair.{mended, flattened, notRepaired, putMended, tooManyLines, repairOutcome}
 use Rattle.spec.proofs.Tests.{pick-all, pick-told, both-true}
 use Rattle.spec.proofs.RecordRoom.{mended-sixteen}
 use Rattle.spec.proofs.Winning.{winning-wins}
 use Rattle.spec.proofs.Records.{records-length}
 use Rattle.spec.specs.declared.Refusal.{Refusal}
-use Rattle.spec.specs.declared.Refusal.the-variants.{BadName, DatabaseTooLarge, NoRoom, TooManyLines, PartialQuestion, BadEnds}
+use Rattle.spec.specs.declared.Refusal.the-variants.{
+  BadName,
+  DatabaseTooLarge,
+  UnknownName,
+  ChainTooLarge,
+  NoRoom,
+  TooManyLines,
+  PartialQuestion,
+  BadEnds,
+  InvalidState,
+}
+use Rattle.spec.specs.declared.finder.Finder.{Finder}
 use Rattle.spec.specs.declared.Answer.{Answer}
 use Rattle.spec.specs.declared.Answer.the-variants.{Present, Absent, Refused as NotAnswered}
 use Rattle.spec.specs.declared.Written.{Written}
@@ -196,6 +208,20 @@ batch-writes db name questions buffer =
     (kept 8 BadName buffer))
     (kept 8 BadEnds buffer)
 
+-- ---- the answer of a finder
+
+finder-writes : (f : Finder) (text buffer : List ℕ) → Writes 1 buffer (finderOutcome f text buffer)
+unfolding finderOutcome
+finder-writes f text buffer =
+    let n = f .line .count in
+    pick-all (Writes 1 buffer) (eqb (f .ended) 0) (kept 1 InvalidState buffer)
+    (pick-all (Writes 1 buffer) (eqb (f .line .stage) 4)
+    (pick-all (Writes 1 buffer) (ltb 16384 n) (kept 1 ChainTooLarge buffer)
+    (pick-told (Writes 1 buffer) (leb n (length text))
+    (λ t. written 1 (take n text) n buffer (omega (arith, length-take-le n text (leb-true n (length text) t))))
+    (λ t. kept 1 NoRoom buffer)))
+    (kept 1 UnknownName buffer))
+
 -- ---- Repair
 
 not-repaired : (r : Refusal) (text records : List ℕ) → Repairs text records (notRepaired r text records)
@@ -237,6 +263,7 @@ demand-1 = record {
   list = λ db name buffer. list-writes (terminalOf db name) buffer;
   flat = λ db name buffer. flat-writes (terminalOf db name) buffer;
   batch = batch-writes;
+  finder = finder-writes;
   repair = repair-repairs;
   send = λ cmd lines speed pad buffer. delivered-writes (padded (prepared cmd) lines speed pad) buffer;
   send-at = λ cmd row column back up lines speed pad buffer. delivered-writes (padded (preparedAt cmd row column back up) lines speed pad) buffer;

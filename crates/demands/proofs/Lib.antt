@@ -16,3 +16,6 @@ pub mod RepairPromises
 pub mod RepairRoom
 pub mod Batch
 pub mod Halves
+pub mod Cutting
+pub mod Collected
+pub mod Finder

@@ -10,6 +10,7 @@ use Rattle.spec.specs.Answers.{Outcome}
 use Rattle.spec.specs.Questions.{stringOutcome}
 use Rattle.spec.specs.Listing.{listOutcome, flatOutcome}
 use Rattle.spec.specs.Batch.{batchOutcome}
+use Rattle.spec.specs.Finder.{finderOutcome}
 use Rattle.spec.specs.Repair.{RepairOutcome, repairOutcome}
 use Rattle.spec.specs.Sending.{sendOutcome, sendAtOutcome, fillOutcome, padOutcome}
 use Rattle.spec.specs.declared.Refusal.{Refusal}
@@ -18,6 +19,7 @@ use Rattle.spec.specs.declared.Answer.the-variants.{Present, Absent, Refused as
 use Rattle.spec.specs.declared.Written.{Written}
 use Rattle.spec.specs.declared.Written.the-variants.{Count, Refused}
 use Rattle.spec.specs.declared.Repaired.the-variants.{Counts, Refused as NotRepaired}
+use Rattle.spec.specs.declared.finder.Finder.{Finder}
 use Rattle.spec.specs.declared.Finished.{Finished}
 use Rattle.spec.specs.declared.Fill.{Fill}
 use Rattle.spec.specs.declared.Fill.the-variants.{Finished as Filled, Refused as NotFilled}
@@ -55,6 +57,7 @@ pub record Demand1 : Type 0 where
   pub list : (db : Files) (name buffer : List ℕ) → Writes 12 buffer (listOutcome db name buffer)
   pub flat : (db : Files) (name buffer : List ℕ) → Writes 1 buffer (flatOutcome db name buffer)
   pub batch : (db : Files) (name questions buffer : List ℕ) → Writes 8 buffer (batchOutcome db name questions buffer)
+  pub finder : (f : Finder) (text buffer : List ℕ) → Writes 1 buffer (finderOutcome f text buffer)
   pub repair : (db text records : List ℕ) → Repairs text records (repairOutcome db text records)
   pub send : (cmd : List ℕ) (lines speed pad : ℕ) (buffer : List ℕ) → Writes 1 buffer (sendOutcome cmd lines speed pad buffer)
   pub send-at : (cmd : List ℕ) (row column : ℕ) (back up : List ℕ) (lines speed pad : ℕ) (buffer : List ℕ)

@@ -12,3 +12,4 @@ pub mod RepairPromises
 pub mod RepairRoom
 pub mod Batch
 pub mod Halves
+pub mod Finder

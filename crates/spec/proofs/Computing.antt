@@ -47,6 +47,24 @@ use Rattle.spec.specs.Questions.{
 use Rattle.spec.specs.Listing.{recordOf, records, listFor, listOutcome, flatText, flatFor, flatOutcome}
 use Rattle.spec.specs.Batch.{batchAnswer, batchAnswers, batchOutcome}
 use Rattle.spec.specs.Search.{lineNames, namesIn, fileNames, allNames, counted, compared, searchAnswer}
+use Rattle.spec.specs.Finder.{
+  collect,
+  matchedAfter,
+  namesByte,
+  lineByte,
+  lineEnds,
+  joinedByte,
+  unheldByte,
+  oneByte,
+  fed,
+  finished,
+  openedFinder,
+  openRefusal,
+  feedTurn,
+  feedAll,
+  endTurn,
+  finderOutcome,
+}
 use Rattle.spec.specs.Repair.{
   linesOf,
   ownBytes,
@@ -98,7 +116,8 @@ unfolding holds upto past laterPieces same among valueFrom areDigits leading tra
     isIgnoredField allIgnored judged judge verdict visited linkTarget entered follow walk placed texts joinedFields firstNames described resolve matches lookup
     canWin hides hidden winningAfter winning valueOf bytesOf put terminalOf terminalFor hitAnswer answerFor flagAnswer numberAnswer decodedOutcome
     stringFor stringOutcome shown showAnswer recordOf records listFor listOutcome flatText flatFor flatOutcome batchAnswer batchAnswers batchOutcome lineNames namesIn fileNames
-    allNames counted compared searchAnswer linesOf ownBytes isDropped left pieces
+    allNames counted compared searchAnswer collect matchedAfter namesByte lineByte lineEnds joinedByte unheldByte oneByte fed finished openedFinder openRefusal
+    feedTurn feedAll endTurn finderOutcome linesOf ownBytes isDropped left pieces
     fieldReason isLink firstLink linkOf fieldPieces lineLink withLink linksAmong leads comesBack linkReason removedLinks reasonAt linkRemovals partsFrom
     partsOf keptBytes allKept endsInBackslash closed mendedLine partRecords mendLine mendLines mended descriptions tooManyLines flattened putMended
     repairOutcome raisedFrom raised changed readByte perform

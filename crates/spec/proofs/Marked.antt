@@ -5,6 +5,7 @@ use Rattle.spec.specs.Examples.{Marked}
 use Rattle.spec.specs.Rulings.{Ruled}
 use Rattle.spec.specs.FileRulings.{FilesRuled}
 use Rattle.spec.specs.SearchRulings.{SearchRuled}
+use Rattle.spec.specs.FinderRulings.{FinderRuled}
 use Rattle.spec.proofs.Computing.{computing}
 
 pub marked-examples : Marked
@@ -22,3 +23,7 @@ file-rulings = refl
 pub search-rulings : SearchRuled
 unfolding computing
 search-rulings = refl
+
+pub finder-rulings : FinderRuled
+unfolding computing
+finder-rulings = record { answers = refl; too-early = refl; block-too-late = refl; end-too-late = refl; bad-name = refl }

@@ -48,7 +48,7 @@ drop-tail b s zero (x ∷ l) e = cc
 drop-tail b s (suc at) [] e = let z : _≡_ {A = ℕ} 0 1 = cc in absurd (omega arith)
 drop-tail b s (suc at) (x ∷ l) e = drop-tail b s at l e
 
-drop-on : (b : ℕ) (s : List ℕ) (at : ℕ) (l : List ℕ) → b ∷ s ≡ drop at l → s ≡ drop (at + 1) l
+pub drop-on : (b : ℕ) (s : List ℕ) (at : ℕ) (l : List ℕ) → b ∷ s ≡ drop at l → s ≡ drop (at + 1) l
 drop-on b s at l e = rw add-one (drop-tail b s at l e)
 
 module _ (db n : List ℕ) where

@@ -13,6 +13,7 @@ pub mod Questions
 pub mod Listing
 pub mod Batch
 pub mod Search
+pub mod Finder
 pub mod Repair
 pub mod Values
 pub mod Sequences
@@ -24,3 +25,4 @@ pub mod Examples
 pub mod Rulings
 pub mod FileRulings
 pub mod SearchRulings
+pub mod FinderRulings

@@ -23,6 +23,7 @@ use Rattle.spec.specs.declared.Refusal.the-variants.{
   TooManyLines,
   PartialQuestion,
   BadEnds,
+  InvalidState,
 }
 
 abbrev pub refusalNumber : Refusal → ℕ
@@ -42,6 +43,7 @@ refusalNumber BadPadding = 13
 refusalNumber TooManyLines = 14
 refusalNumber PartialQuestion = 15
 refusalNumber BadEnds = 16
+refusalNumber InvalidState = 17
 
 -- ---- 1: an asked name is 1 to 64 bytes of 32..126, none a bar (124), a colon (58) or a backslash (92)
 

@@ -1,9 +1,10 @@
 // The types that the definitions of specs/ and the code share: the answers of the operations, and the kinds of a capability.
-// The types of positions are in position.rt.
+// The types of positions are in position.rt, that of a finder's state in finder.rt.
 ghost use mathlib.Core.Path.{_≡_};
 ghost use Rattle.spec.specs.Refusals.{refusalNumber};
 ghost use Rattle.spec.specs.Fields.{kindNumber, kindOf};
 
+pub mod finder;
 pub mod position;
 
 // A database of more bytes is refused with 3.
@@ -33,6 +34,7 @@ pub enum Refusal {
     TooManyLines,
     PartialQuestion,
     BadEnds,
+    InvalidState,
 }
 
 impl Refusal {
@@ -56,6 +58,7 @@ impl Refusal {
             Refusal::TooManyLines => 14,
             Refusal::PartialQuestion => 15,
             Refusal::BadEnds => 16,
+            Refusal::InvalidState => 17,
         }
     }
 }
@@ -109,7 +112,8 @@ pub enum Answer {
     Refused(Refusal),
 }
 
-// The answer of List, Flat, a batch, Send, Send at and its second half: the number of records, of answers, or of bytes, that were written.
+// The answer of List, Flat, a batch, a finder, Send, Send at and its second half: the number of records, of answers, or of bytes, that were
+// written.
 pub enum Written {
     Count(usize),
     Refused(Refusal),
