@@ -3,7 +3,8 @@
 //
 // A line is `repair`, database, room and room for the records; `batch`, database, name, questions and room; or `part` (what Show shows) or
 // `search`, database, ends and name; `flag` with an id after these; `list` with a room after them; with a bar after each but the last. Ends are bytes,
-// one for each end; a batch is about one file. Any other line is a comment. In a text
+// one for each end; a batch is about one file; or `cut`, file, the places of its cuts, name, room for the finder's text and room, or `early`
+// for the same without an end declared. Any other line is a comment. In a text
 // a backslash and two hexadecimal digits stand for a byte. A buffer has as many bytes as its room says, at most 64, and holds 255 in each
 // before the call.
 use batch::batch;
@@ -18,6 +19,8 @@ use spec::Answer;
 use spec::Repaired;
 use spec::Searched;
 use spec::Shown;
+use spec::finder::Finder;
+ghost use Prim.Native.Nat.{_≤_, max};
 ghost use Rattle.io.specs.Counts.{Counts};
 
 fn case_batch(line: &[u8], out: &mut [u8]) {
@@ -146,6 +149,71 @@ fn case_files(operation: u8, line: &[u8], out: &mut [u8]) {
     ask_files(operation, line, &db[..n], &ends[..m], out);
 }
 
+// ---- Ask 8: a file in blocks
+
+// The place of a cut; one that lies before the last, or past the end, is the last again.
+fn next_cut(b: u8, at: usize, end: usize) -> usize
+    ensures { λ r. ⌜ (at ≤ r) × (r ≤ max at end) ⌝ }
+{
+    let to = wide(b);
+    if to < at {
+        return at;
+    }
+    if to > end {
+        return at;
+    }
+    to
+}
+
+fn feed_blocks(f: Finder, file: &[u8], cuts: &[u8], collected: &mut [u8]) -> Finder {
+    let mut g = f;
+    let mut at = 0;
+    let mut i = 0;
+    while i < cuts.len() {
+        let to = next_cut(cuts[i], at, file.len());
+        let t = finder::feed(g, &file[at..to], collected);
+        g = t.finder;
+        at = to;
+        i += 1;
+    }
+    let t = finder::feed(g, &file[at..], collected);
+    t.finder
+}
+
+fn end_for(operation: u8, f: Finder, collected: &mut [u8]) -> Finder {
+    if operation == b'e' {
+        return f;
+    }
+    let t = finder::end(f, collected);
+    t.finder
+}
+
+fn case_blocks(operation: u8, line: &[u8], collected: &mut [u8], out: &mut [u8]) {
+    let mut file = [0u8; 256];
+    let mut cuts = [0u8; 16];
+    let mut name = [0u8; 80];
+    let n = text(line, 1, &mut file);
+    let k = text(line, 2, &mut cuts);
+    let m = text(line, 3, &mut name);
+    let opened = finder::open(&name[..m]);
+    if opened.refusal != 0 {
+        show_refusal((opened.refusal % 256) as u8);
+        io::write_all(1, b"\n");
+        return;
+    }
+    let first = opened.finder;
+    let fed = feed_blocks(first, &file[..n], &cuts[..k], collected);
+    let last = end_for(operation, fed, collected);
+    show_written(finder::answer(last, collected, out), out);
+}
+
+fn is_of_blocks(b: u8) -> bool {
+    match b {
+        b'c' | b'e' => true,
+        _ => false,
+    }
+}
+
 fn is_of_files(b: u8) -> bool {
     match b {
         b'p' | b's' | b'f' | b'l' => true,
@@ -164,6 +232,13 @@ fn run_line(line: &[u8], n: u64) {
         let most = room(line, 4, &out);
         io::print_decimal(1, n);
         case_files(operation, line, &mut out[..most]);
+        return;
+    }
+    if is_of_blocks(operation) {
+        let most_text = room(line, 4, &records);
+        let most = room(line, 5, &out);
+        io::print_decimal(1, n);
+        case_blocks(operation, line, &mut records[..most_text], &mut out[..most]);
         return;
     }
     if operation == b'b' {

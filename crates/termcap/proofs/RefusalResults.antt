@@ -4,7 +4,7 @@ use Rattle.spec.specs.Refusals.{refusalNumber}
 use Rattle.spec.specs.Answers.{refusedReport}
 use Rattle.spec.specs.declared.Refusal.{Refusal}
 use Rattle.spec.specs.declared.Refusal.the-variants.{BadName, BadId, DatabaseTooLarge, UnknownName, LostLink, Malformed, Cycle, ChainTooLarge}
-use Rattle.spec.specs.declared.Refusal.the-variants.{NoRoom, UnknownSequence, TooFewParameters, OutOfRange, BadPadding, TooManyLines, PartialQuestion, BadEnds}
+use Rattle.spec.specs.declared.Refusal.the-variants.{NoRoom, UnknownSequence, TooFewParameters, OutOfRange, BadPadding, TooManyLines, PartialQuestion, BadEnds, InvalidState}
 use Rattle.termcap.specs.Results.{resultOf}
 
 pub refused-result : (r : Refusal) → refusalNumber r ≡ resultOf (refusedReport r)
@@ -24,3 +24,4 @@ refused-result BadPadding = refl
 refused-result TooManyLines = refl
 refused-result PartialQuestion = refl
 refused-result BadEnds = refl
+refused-result InvalidState = refl

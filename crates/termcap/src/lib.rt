@@ -1,6 +1,12 @@
 // The library in one place: the operations of documents 01 and 02 with their answers, the opened reader, and the C functions, which give each
 // result as a number. A slice passes to C as a pointer and a length; the reader has no C functions.
+mod finder_calls;
+
 pub use batch::batch;
+pub use finder_calls::termcap_finder_answer;
+pub use finder_calls::termcap_finder_end;
+pub use finder_calls::termcap_finder_feed;
+pub use finder_calls::termcap_finder_open;
 pub use listing::flat;
 pub use listing::list;
 pub use name_count::search;

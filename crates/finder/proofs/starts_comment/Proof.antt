@@ -1,0 +1,16 @@
+use Rattle.finder.proofs.Steps as Steps
+use mathlib.Core.Path.{_≡_, refl, sym, _∙_, ap}
+use mathlib.Core.Bool.{Bool, true, false}
+use native.Mathlib.Omega.{arith}
+use borrow.Author.Tests.{eq-eqb, ne-eqb}
+use Rattle.finder.proofs.starts_comment.Statement.{statement}
+use Rattle.finder.proofs.starts_comment.Tie as tie
+
+returns : tie.Need-returns
+returns c = rw (eq-eqb _ _ (c .if1 .taken))
+
+returns-2 : tie.Need-returns-2
+returns-2 c = rw (ne-eqb _ _ (c .if1 .left))
+
+pub starts-comment-spec : {M : Type 1} → statement M
+starts-comment-spec = tie.close (tie.spec returns returns-2)
