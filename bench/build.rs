@@ -10,7 +10,7 @@ fn main() {
     let folder = env::var_os("TERMCAP_LIB_DIR").unwrap_or_else(|| "../target/staticlib".into());
     let archive = package.join(folder).join("libtermcap.a");
     let objects = PathBuf::from(env::var_os("OUT_DIR").expect("cargo sets this"));
-    for name in ["search", "sending"] {
+    for name in ["finder", "search", "sending"] {
         let object = objects.join(name).with_extension("o");
         compile(&package.join(name).with_extension("c"), &object);
         println!("cargo:rustc-link-arg-bins={}", object.display());

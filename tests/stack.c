@@ -12,24 +12,51 @@
 #include "termcap_proved.h"
 
 enum { STACK = 1 << 20, PAINT = 0xA5 };
-enum { SHOW, SEARCH, FLAG, NUMBER, STRING, LIST, FLAT, BATCH, REPAIR, SEND, SEND_AT, FILL, PAD, CALLS };
+enum {
+    SHOW, SEARCH, FLAG, NUMBER, STRING, LIST, FLAT, BATCH, REPAIR, FINDER,
+    SEND, SEND_AT, FILL, PAD, CALLS
+};
 enum { NONE = CALLS };
 
 static uint8_t stack[STACK] __attribute__((aligned(4096)));
 static uint8_t db[1048576], mended[1048576], out[1 << 17], command[16384];
+static uint8_t text[TERMCAP_FINDER_TEXT_BYTES];
+static struct termcap_finder finder;
 static size_t db_len, command_len;
 static const char *name = "";
 
-static const char *const calls[CALLS] = {"show",   "search", "flag", "number",  "string", "list", "flat",
-                                         "batch",  "repair", "send", "send_at", "fill",   "pad"};
+static const char *const calls[CALLS] = {"show",   "search",     "flag", "number",  "string",
+                                         "list",   "flat",       "batch", "repair", "finder_...",
+                                         "send",   "send_at",    "fill", "pad"};
 static const size_t most[CALLS] = {TERMCAP_STACK_SHOW,     TERMCAP_STACK_SHOW,
                                    TERMCAP_STACK_QUESTION, TERMCAP_STACK_QUESTION,
                                    TERMCAP_STACK_QUESTION, TERMCAP_STACK_LIST,
                                    TERMCAP_STACK_LIST,     TERMCAP_STACK_BATCH,
-                                   TERMCAP_STACK_REPAIR,   TERMCAP_STACK_SEND,
+                                   TERMCAP_STACK_REPAIR,   TERMCAP_STACK_FINDER,
                                    TERMCAP_STACK_SEND,     TERMCAP_STACK_SEND,
-                                   TERMCAP_STACK_SEND};
+                                   TERMCAP_STACK_SEND,     TERMCAP_STACK_SEND};
 static size_t measured[CALLS];
+
+/* The library has no bytes between the numbers of a finder. */
+typedef char finder_has_72_bytes[sizeof(struct termcap_finder) == 72 ? 1 : -1];
+
+/* Single bytes, and the rest in one block; then the calls that are refused. */
+static void find(const uint8_t *n, size_t n_len)
+{
+    const size_t single = db_len < 2000 ? db_len : 2000;
+    uint64_t x;
+    termcap_finder_open(n, n_len, &finder);
+    for (size_t i = 0; i < single; i++) {
+        termcap_finder_feed(&finder, db + i, 1, text, sizeof text);
+    }
+    termcap_finder_feed(&finder, db + single, db_len - single, text, sizeof text);
+    for (int i = 0; i < 2; i++) {
+        termcap_finder_answer(&finder, text, sizeof text, out, sizeof out, &x);
+        termcap_finder_end(&finder, text, sizeof text);
+    }
+    termcap_finder_answer(&finder, text, sizeof text, out, 0, &x);
+    termcap_finder_open(n, 0, &finder);
+}
 
 static void *call(void *which)
 {
@@ -76,6 +103,7 @@ static void *call(void *which)
     case REPAIR:
         termcap_repair(db, db_len, mended, sizeof mended, out, sizeof out, &x, &y);
         break;
+    case FINDER: find(n, n_len); break;
     case SEND: termcap_send(command, command_len, 1, 9600, 0, out, sizeof out, &x); break;
     case SEND_AT:
         termcap_send_at(command, command_len, 9, 10, n, n_len, n, n_len, 1, 9600, 0, out, sizeof out,

@@ -6,6 +6,7 @@ mod compared;
 mod contender;
 mod counts;
 mod databases;
+mod finders;
 mod growth;
 mod hostile;
 #[path = "../../tests/src/library.rs"]
@@ -95,6 +96,7 @@ fn measure(targets: &mut Targets) -> agreement::Checked {
     let to_repair = databases::repairs::all();
     repairs::check(&to_repair)?;
     compared::check(&large)?;
+    finders::check(&large)?;
 
     main_table::print(&groups, targets);
     growth::print(&series);
@@ -103,6 +105,7 @@ fn measure(targets: &mut Targets) -> agreement::Checked {
     repairs::print(&to_repair, targets);
     several_files::print(&large.bytes, targets);
     compared::print(&large);
+    finders::print(&large, targets);
     let [searching, _, _, sending] = &groups[..] else {
         return Err("the groups of rows are not those that are counted".to_string());
     };

@@ -1,4 +1,7 @@
-//! The three searches of `search.c`, and the sending of `sending.c`.
+//! The three searches of `search.c`, the sending of `sending.c` and the finder of `finder.c`.
+
+use std::marker::PhantomData;
+use std::mem::MaybeUninit;
 
 use termcap_tests::reference::Position;
 
@@ -29,6 +32,9 @@ extern "C" {
         pad: u8,
         out: *mut u8,
     ) -> usize;
+    fn plain_finder_open(name: *const u8, name_len: usize, finder: *mut State);
+    fn plain_finder_feed(finder: *mut State, block: *const u8, block_len: usize, text: *mut u8);
+    fn plain_finder_end(finder: *mut State, text: *mut u8) -> usize;
 }
 
 /// The start of the first line that holds the name, or `NOWHERE`.
@@ -82,5 +88,48 @@ pub fn send_at(
             pad,
             out.as_mut_ptr(),
         )
+    }
+}
+
+/// `struct plain_finder`.
+#[repr(C)]
+struct State {
+    name: *const u8,
+    name_len: usize,
+    same: usize,
+    count: usize,
+    visible: usize,
+    stage: i32,
+    held: i32,
+}
+
+/// The finder in C, which keeps a pointer to its name.
+pub struct PlainFinder<'a> {
+    state: State,
+    name: PhantomData<&'a [u8]>,
+}
+
+impl<'a> PlainFinder<'a> {
+    pub fn open(name: &'a [u8]) -> PlainFinder<'a> {
+        let mut state = MaybeUninit::uninit();
+        let state = unsafe {
+            plain_finder_open(name.as_ptr(), name.len(), state.as_mut_ptr());
+            state.assume_init()
+        };
+        PlainFinder { state, name: PhantomData }
+    }
+
+    /// The text has 16,384 bytes, here and below.
+    pub fn feed(&mut self, block: &[u8], text: &mut [u8]) {
+        assert_eq!(text.len(), 16_384);
+        let text = text.as_mut_ptr();
+        unsafe { plain_finder_feed(&mut self.state, block.as_ptr(), block.len(), text) }
+    }
+
+    /// The bytes of the line that was found.
+    pub fn end(&mut self, text: &mut [u8]) -> Option<usize> {
+        assert_eq!(text.len(), 16_384);
+        let count = unsafe { plain_finder_end(&mut self.state, text.as_mut_ptr()) };
+        (count != usize::MAX).then_some(count)
     }
 }

@@ -8,8 +8,9 @@
  * names and ids need no closing zero byte.
  *
  * Results. Every function returns TERMCAP_OK (accepted, or present), TERMCAP_ABSENT, or a refusal
- * number. With any result but TERMCAP_OK no byte of an output buffer and none of the numbers changes.
- * With TERMCAP_OK the bytes of a buffer past those reported stay as they were.
+ * number. With any result but TERMCAP_OK no byte of an output buffer and none of the numbers changes;
+ * the one exception is a finder that is refused when it is opened. With TERMCAP_OK the bytes of a buffer
+ * past those reported stay as they were.
  *
  * Files. termcap_X takes one file, which fills `db`. termcap_X_files takes up to TERMCAP_FILES files,
  * one after the other in `db`, by their ends: the first starts at 0, each other where the one before
@@ -26,10 +27,11 @@
  * the next link. A batch: 16, 1, 3, 15, 9; what the walk refuses stands in its answers. Repair: 3, 14, 9.
  * Send: 13, 12, 9. Send at: 12 for row and column, 13, then faults from left to right through the body
  * (10 to 12), then 12 for lines and speed, then 9. Its first half: the same without lines and speed; its
- * second half: 12, 9.
+ * second half: 12, 9. A finder: 1 when it is opened, 17 for a block or an end after its end, and for its
+ * answer 17, 4, 8, 9.
  *
- * Threads. The library has no state and allocates nothing: a function may be called from any thread,
- * and from several at once, if their buffers are apart.
+ * Threads. The library has no state of its own and allocates nothing: a function may be called from any
+ * thread, and from several at once, if their buffers are apart. A finder's state is the caller's.
  *
  * Stack. TERMCAP_STACK_... below say how many bytes of stack a call needs at most, whatever its input.
  * They are measured, not proved.
@@ -63,9 +65,10 @@ extern "C" {
 #define TERMCAP_MALFORMED 6u
 /* A link leads to a line already in the chain. */
 #define TERMCAP_CYCLE 7u
-/* A 33rd description is reached, or the chain's size passes 16,384. */
+/* A 33rd description is reached, or the chain's size passes 16,384. Of a finder: the line that it found
+ * has over 16,384 joined bytes. */
 #define TERMCAP_CHAIN_TOO_LARGE 8u
-/* The output doesn't fit the lent buffer. */
+/* The output doesn't fit the lent buffer; of a finder, also: the line doesn't fit its text. */
 #define TERMCAP_NO_ROOM 9u
 /* An unknown, or cut off, percent sequence. */
 #define TERMCAP_UNKNOWN_SEQUENCE 10u
@@ -81,6 +84,8 @@ extern "C" {
 #define TERMCAP_PARTIAL_QUESTION 15u
 /* Ends that fall or pass the buffer, or over eight of them. Equal ends do not fall. */
 #define TERMCAP_BAD_ENDS 16u
+/* A finder is fed, or ended, after its end, or asked for its answer before it. */
+#define TERMCAP_INVALID_STATE 17u
 
 /* The most files in one buffer. */
 #define TERMCAP_FILES 8u
@@ -111,14 +116,22 @@ extern "C" {
  * proved (crates/demands/specs/RepairPromises.antt). */
 #define TERMCAP_REPAIR_RECORDS_BYTES(db_len) (8 * ((size_t)(db_len) + 1))
 
+/* Bytes of a finder's text that are always enough: with them 9 is about the output alone. This is proved
+ * (crates/demands/specs/Finder.antt). */
+#define TERMCAP_FINDER_TEXT_BYTES 16384u
+/* The stage of a finder whose line is complete. */
+#define TERMCAP_FINDER_COMPLETE 4u
+
 /* The stack a call needs, in bytes, with one file or several: of termcap_show and termcap_search; of
  * termcap_flag, termcap_number and termcap_string; of termcap_list and termcap_flat; of termcap_batch; of
- * termcap_repair; of termcap_send, termcap_send_at, termcap_fill and termcap_pad. */
+ * termcap_repair; of termcap_finder_open, _feed, _end and _answer; of termcap_send, termcap_send_at,
+ * termcap_fill and termcap_pad. */
 #define TERMCAP_STACK_SHOW 5120u
 #define TERMCAP_STACK_QUESTION 9216u
 #define TERMCAP_STACK_LIST 12288u
 #define TERMCAP_STACK_BATCH 71680u
 #define TERMCAP_STACK_REPAIR 155648u
+#define TERMCAP_STACK_FINDER 1024u
 #define TERMCAP_STACK_SEND 4096u
 
 /* The kinds in a record and in a question. */
@@ -267,6 +280,95 @@ uint32_t termcap_batch_files(const uint8_t *db, size_t db_len, const size_t *end
  */
 uint32_t termcap_repair(const uint8_t *db, size_t db_len, uint8_t *out, size_t out_len,
                         uint8_t *records, size_t records_len, uint64_t *count, uint64_t *removed);
+
+/*
+ * A finder, for a console that never holds a file: it is fed the file in blocks of whatever length, none
+ * included, and collects the joined line of the first description with the asked name: names and fields,
+ * without the newline that ends it. Fields aren't judged and links aren't followed. The file may have any
+ * size, and lines that don't have the name any length. However the file is cut, the state, the text and
+ * the answer are those of the whole file in one block; this is proved (crates/demands/specs/Finder.antt).
+ *
+ * Both the struct and the text are the caller's, and the finder's from its opening to its answer: pass
+ * the same two at each call and change neither in between. They may be copied or moved between calls. The
+ * text needs no first value.
+ *
+ *     static struct termcap_finder finder;
+ *     static uint8_t text[TERMCAP_FINDER_TEXT_BYTES], block[512], line[2048];
+ *     uint64_t length;
+ *     size_t n;
+ *
+ *     result = termcap_finder_open(name, name_len, &finder);
+ *     while (result == TERMCAP_OK && (n = fread(block, 1, sizeof block, file)) > 0)
+ *         result = termcap_finder_feed(&finder, block, n, text, sizeof text);
+ *     if (result == TERMCAP_OK)
+ *         result = termcap_finder_end(&finder, text, sizeof text);
+ *     if (result == TERMCAP_OK)
+ *         result = termcap_finder_answer(&finder, text, sizeof text, line, sizeof line, &length);
+ *
+ * For the name "fan", and a file that arrives in these three blocks (NL and TAB are single bytes):
+ *
+ *     # hall NL ve             a comment, and a line begins: stage 1, count 2, the text is "ve"
+ *     nt|fan:am:\              it has the name: stage 2, count 12; the backslash is held
+ *     NL TAB :co#40: NL kiln   the pair vanishes, and the line is complete: stage 4, count 20
+ *
+ * The answer is "vent|fan:am:" TAB ":co#40:", 20 bytes.
+ *
+ * The numbers in the struct are for reading; any bytes in it are safe, and only lead to an answer without
+ * meaning. Where `stage` is TERMCAP_FINDER_COMPLETE after a block no later byte counts, and the rest of the
+ * file need not be fed.
+ */
+struct termcap_finder {
+    /* 0: the line has only blanks so far. 1, and any other number: its names are being read. 2: it has
+     * the name. 3: it cannot have it. 4: the line with the name is complete. */
+    uint8_t stage;
+    /* Bytes of the present name, all as in the asked one; 65 if one differs. */
+    uint8_t matched;
+    /* Bytes of the line that were collected, at most 16,385. */
+    uint16_t count;
+    /* Not 0: the last byte was a backslash, which may vanish with the next. */
+    uint8_t held;
+    /* Not 0: the end was declared. */
+    uint8_t ended;
+    /* Bytes of the name. */
+    uint16_t size;
+    uint8_t name[64];
+};
+
+/*
+ * Opens a finder for a name; whatever was in the struct before is lost.
+ *
+ * Refusals: 1. The struct is then that of a finder without a name that has ended: a caller who goes on
+ * gets 17 for each block and end, and 4 as the answer.
+ */
+uint32_t termcap_finder_open(const uint8_t *name, size_t name_len, struct termcap_finder *finder);
+
+/*
+ * Feeds the next block. `text` gets the bytes of the line that are collected, from its start: so far all
+ * of a line that has the name, and the names of one that may have it. Bytes past its end are only
+ * counted; no byte past the first 16,385 is written.
+ *
+ * Refusals: 17 after the end; struct and text then keep every byte.
+ */
+uint32_t termcap_finder_feed(struct termcap_finder *finder, const uint8_t *block, size_t block_len,
+                             uint8_t *text, size_t text_len);
+
+/*
+ * Declares the end of the file, which ends its last line, too.
+ *
+ * Refusals: 17 after the end; struct and text then keep every byte.
+ */
+uint32_t termcap_finder_end(struct termcap_finder *finder, uint8_t *text, size_t text_len);
+
+/*
+ * The answer, as often as it is asked for. It changes neither struct nor text.
+ *
+ * TERMCAP_OK: the first *count bytes of `out` are the joined line. They are also the first *count bytes of
+ * `text`.
+ * Refusals: 17 before the end, 4, 8 (the line has over 16,384 joined bytes), 9 (it doesn't fit `text` or
+ * `out`), in this order.
+ */
+uint32_t termcap_finder_answer(const struct termcap_finder *finder, const uint8_t *text,
+                               size_t text_len, uint8_t *out, size_t out_len, uint64_t *count);
 
 /*
  * Send: the body of a decoded command and its padding. Percent signs are copied unchanged. The

@@ -2,6 +2,7 @@
 
 use std::fmt;
 
+use crate::finder::{self, Watched};
 use crate::halves;
 use crate::properties;
 use crate::random::Random;
@@ -33,10 +34,14 @@ pub enum Operation {
     Pad,
     /// On real calls: Send at equals its two halves in a row.
     Halves,
+    /// A finder opened for `name` and fed `database` in blocks.
+    Finder,
+    /// A finder that starts as `state`, which may be any bytes.
+    FinderState,
 }
 
 impl Operation {
-    pub const ALL: [Operation; 16] = [
+    pub const ALL: [Operation; 18] = [
         Operation::Show,
         Operation::Search,
         Operation::Flag,
@@ -53,6 +58,8 @@ impl Operation {
         Operation::Fill,
         Operation::Pad,
         Operation::Halves,
+        Operation::Finder,
+        Operation::FinderState,
     ];
 
     pub fn sends(self) -> bool {
@@ -69,6 +76,14 @@ impl Operation {
 
     pub fn repairs(self) -> bool {
         matches!(self, Operation::Repair | Operation::RepairPromises)
+    }
+
+    pub fn finds(self) -> bool {
+        matches!(self, Operation::Finder | Operation::FinderState)
+    }
+
+    pub fn takes_name(self) -> bool {
+        !self.sends() && !self.repairs() && self != Operation::FinderState
     }
 
     pub fn takes_id(self) -> bool {
@@ -112,6 +127,9 @@ pub struct Case {
     pub database: Vec<u8>,
     /// Ends of several files; without them the one-file function is called.
     pub ends: Option<Vec<usize>>,
+    /// Of a finder: where the database is cut into blocks. Equal places make an empty block, and an
+    /// empty database without cuts makes no block at all.
+    pub cuts: Vec<usize>,
     pub name: Vec<u8>,
     pub id: Vec<u8>,
     /// The questions of a batch, four bytes each.
@@ -129,6 +147,10 @@ pub struct Case {
     pub room: u64,
     /// Bytes of the second buffer of a repair, for its records.
     pub records_room: u64,
+    /// Bytes of the text that is lent to a finder at each call.
+    pub text_room: u64,
+    /// The bytes of a finder that was not opened; those that are missing are 0.
+    pub state: Vec<u8>,
     /// Of Pad: the delay in tenths, and the star, which any number but 0 is.
     pub delay: u64,
     pub star: u64,
@@ -140,6 +162,22 @@ impl Case {
     pub fn files(&self) -> Files<'_> {
         Files { bytes: &self.database, ends: self.ends.as_deref() }
     }
+
+    /// The blocks that a finder is fed.
+    pub fn blocks(&self) -> Vec<&[u8]> {
+        if self.database.is_empty() && self.cuts.is_empty() {
+            return Vec::new();
+        }
+        let size = self.database.len();
+        let mut start = 0;
+        let mut blocks = Vec::new();
+        for &cut in self.cuts.iter().chain([&size]) {
+            let end = cut.clamp(start, size);
+            blocks.push(&self.database[start..end]);
+            start = end;
+        }
+        blocks
+    }
 }
 
 /// What a call left behind: the result, the numbers and every byte of the buffers and their guards.
@@ -149,6 +187,8 @@ pub struct Observed {
     pub numbers: [u64; 3],
     pub block: Vec<u8>,
     pub records_block: Vec<u8>,
+    /// Of a finder: its other calls, its state and its text.
+    pub finder: Option<Watched>,
 }
 
 /// Guard bytes before and behind the lent buffer.
@@ -179,10 +219,11 @@ pub fn before(case: &Case) -> Observed {
     let mut records_block = vec![0; GUARD + case.records_room as usize + GUARD];
     random.fill(&mut records_block);
     let numbers = [random.number(), random.number(), random.number()];
-    Observed { code: u32::MAX, numbers, block, records_block }
+    Observed { code: u32::MAX, numbers, block, records_block, finder: None }
 }
 
-/// One call of the subject; for the properties, the call of Flat that they start from.
+/// One call of the subject; for the properties, the call of Flat that they start from; for a finder,
+/// all its calls.
 pub fn observe(case: &Case, subject: &impl Subject) -> Observed {
     let mut seen = before(case);
     let end = seen.block.len() - GUARD;
@@ -215,6 +256,11 @@ pub fn observe(case: &Case, subject: &impl Subject) -> Observed {
             let (delay, star, bytes) = (case.delay, case.star, &case.command);
             subject.pad(delay, star, bytes, case.lines, case.speed, case.pad, out, first)
         }
+        Operation::Finder | Operation::FinderState => {
+            let (code, watched) = finder::watch(case, subject, out, first);
+            seen.finder = Some(watched);
+            code
+        }
     };
     seen
 }
@@ -228,6 +274,8 @@ pub fn disagreement(case: &Case, subject: &impl Subject) -> Option<String> {
         repair_promises::broken(case, subject)
     } else if case.operation == Operation::Halves {
         halves::broken(case, subject)
+    } else if case.operation.finds() {
+        finder::broken(case, subject)
     } else {
         let expected = observe(&kept, &Reference);
         let seen = observe(case, subject);
@@ -239,7 +287,7 @@ pub fn disagreement(case: &Case, subject: &impl Subject) -> Option<String> {
     complaint
 }
 
-fn explain(case: &Case, expected: &Observed, seen: &Observed) -> String {
+pub fn explain(case: &Case, expected: &Observed, seen: &Observed) -> String {
     let mut text = String::new();
     text += &format!("reference: {}\n", describe(case, expected));
     text += &format!("library:   {}\n", describe(case, seen));
@@ -310,6 +358,9 @@ fn byte_differences(case: &Case, expected: &Observed, seen: &Observed) -> Vec<St
     }
     if expected.records_block != seen.records_block {
         lines.push("the buffer for the records differs".to_string());
+    }
+    if let (Some(expected), Some(seen)) = (&expected.finder, &seen.finder) {
+        lines.extend(expected.differences(seen));
     }
     lines
 }
@@ -387,8 +438,14 @@ impl fmt::Display for Case {
             if let Some(ends) = &self.ends {
                 writeln!(formatter, "    ends: Some(vec!{ends:?}),")?;
             }
-            if !self.operation.repairs() {
+            if self.operation.finds() {
+                writeln!(formatter, "    cuts: vec!{:?},", self.cuts)?;
+            }
+            if self.operation.takes_name() {
                 writeln!(formatter, "    name: {},", Bytes(&self.name))?;
+            }
+            if self.operation == Operation::FinderState {
+                writeln!(formatter, "    state: {},", Bytes(&self.state))?;
             }
             if self.operation.takes_id() {
                 writeln!(formatter, "    id: {},", Bytes(&self.id))?;
@@ -402,6 +459,9 @@ impl fmt::Display for Case {
         }
         if self.operation.repairs() {
             writeln!(formatter, "    records_room: {},", self.records_room)?;
+        }
+        if self.operation.finds() {
+            writeln!(formatter, "    text_room: {},", self.text_room)?;
         }
         writeln!(formatter, "    fill: {},", self.fill)?;
         writeln!(formatter, "    ..Case::default()")?;

@@ -6,6 +6,8 @@ use crate::case::{before, describe, observe, Case, Operation, GUARD};
 use crate::generate::many_flags;
 use crate::subject::{Subject, ABSENT, ACCEPTED};
 
+mod finders;
+
 pub struct Example {
     pub title: &'static str,
     pub case: Case,
@@ -36,8 +38,16 @@ pub enum Expected {
     Finished(u64, u64, Vec<u8>),
     /// The mended database, and line, place, reason and count of each removal.
     Mended(Vec<u8>, Vec<[u32; 4]>),
+    /// The results of a finder's calls before its answer.
+    Results(Vec<u32>),
+    /// Stage, matched, count and held of a finder after its blocks, and the bytes of its text that have
+    /// changed.
+    Standing([u16; 4], Vec<u8>),
 }
-use Expected::{Absent, Answers, Bytes, Counted, Finished, Mended, Records, Refused, Shown, Value};
+use Expected::{
+    Absent, Answers, Bytes, Counted, Finished, Mended, Records, Refused, Results, Shown, Standing,
+    Value,
+};
 
 /// What is wrong with the subject's answer, in words; nothing if it is the one written here.
 pub fn wrong(example: &Example, subject: &impl Subject) -> Option<String> {
@@ -62,6 +72,7 @@ pub fn wrong(example: &Example, subject: &impl Subject) -> Option<String> {
         Answers(each) => (&[each.len() as u64], &answers),
         Finished(delay, star, bytes) => (&[*delay, *star, bytes.len() as u64], bytes),
         Mended(text, removals) => (&[text.len() as u64, removals.len() as u64], text),
+        Results(_) | Standing(..) => return finders::wrong(example, subject),
     };
     if let Mended(_, removals) = &example.expected {
         let numbers = removals.iter().flatten();
@@ -71,6 +82,8 @@ pub fn wrong(example: &Example, subject: &impl Subject) -> Option<String> {
     right.numbers[..numbers.len()].copy_from_slice(numbers);
     right.block[GUARD..GUARD + bytes.len()].copy_from_slice(bytes);
     let seen = observe(case, subject);
+    // What a finder has besides its answer is judged by examples of its own.
+    right.finder.clone_from(&seen.finder);
     (seen != right).then(|| {
         format!("expected: {}\nseen:     {}\n", describe(case, &right), describe(case, &seen))
     })
@@ -111,6 +124,7 @@ pub fn all() -> Vec<Example> {
         batches_refused(),
         first_half(),
         second_half(),
+        finders::all(),
     ];
     parts.into_iter().flatten().collect()
 }

@@ -12,6 +12,7 @@ use crate::reference::{self, halves, Position};
 mod commands;
 mod databases;
 mod files;
+mod finders;
 mod repairs;
 
 pub use databases::many_flags;
@@ -19,8 +20,8 @@ pub use databases::many_flags;
 /// Case number `index` of the run with this seed.
 pub fn case(seed: u64, index: u64) -> Case {
     let mut random = Random::for_case(seed, index);
-    let operation =
-        Operation::ALL[random.weighted(&[7, 7, 9, 9, 14, 11, 11, 9, 9, 9, 14, 5, 4, 6, 6, 4])];
+    let weights = [7, 7, 9, 9, 14, 11, 11, 9, 9, 9, 14, 5, 4, 6, 6, 4, 12, 6];
+    let operation = Operation::ALL[random.weighted(&weights)];
     fill_in(&mut random, operation)
 }
 
@@ -35,6 +36,8 @@ fn fill_in(random: &mut Random, operation: Operation) -> Case {
         commands::fill_in(random, &mut case);
     } else if operation.repairs() {
         repairs::fill_in(random, &mut case);
+    } else if operation.finds() {
+        finders::fill_in(random, &mut case);
     } else {
         databases::fill_in(random, &mut case);
         files::fill_in(random, &mut case);
@@ -106,6 +109,7 @@ fn needed(case: &Case) -> Option<u64> {
             let pads = halves::pads(case.delay, case.star != 0, case.lines, case.speed).ok()?;
             Some(case.command.len() as u64 + pads)
         }
+        Operation::Finder | Operation::FinderState => finders::needed(case),
         _ => None,
     }
 }

@@ -5,6 +5,7 @@
 
 pub mod case;
 pub mod examples;
+pub mod finder;
 pub mod generate;
 pub mod halves;
 pub mod mix;

@@ -2,6 +2,7 @@
 //!
 //! This file belongs to the program that is linked with the library, not to the crate.
 
+use termcap_tests::reference::finder::State;
 use termcap_tests::reference::{Files, Position};
 use termcap_tests::subject::Subject;
 
@@ -229,6 +230,23 @@ extern "C" {
         lines: u64,
         speed: u64,
         pad: u8,
+        out: *mut u8,
+        out_len: usize,
+        count: *mut u64,
+    ) -> u32;
+    fn termcap_finder_open(name: *const u8, name_len: usize, finder: *mut State) -> u32;
+    fn termcap_finder_feed(
+        finder: *mut State,
+        block: *const u8,
+        block_len: usize,
+        text: *mut u8,
+        text_len: usize,
+    ) -> u32;
+    fn termcap_finder_end(finder: *mut State, text: *mut u8, text_len: usize) -> u32;
+    fn termcap_finder_answer(
+        finder: *const State,
+        text: *const u8,
+        text_len: usize,
         out: *mut u8,
         out_len: usize,
         count: *mut u64,
@@ -609,6 +627,34 @@ impl Subject for Library {
                 lines,
                 speed,
                 pad,
+                out.as_mut_ptr(),
+                out.len(),
+                count,
+            )
+        }
+    }
+
+    fn finder_open(&self, name: &[u8], finder: &mut State) -> u32 {
+        unsafe { termcap_finder_open(pointer(name), name.len(), finder) }
+    }
+
+    fn finder_feed(&self, finder: &mut State, block: &[u8], text: &mut [u8]) -> u32 {
+        let (block_len, text_len) = (block.len(), text.len());
+        unsafe {
+            termcap_finder_feed(finder, pointer(block), block_len, text.as_mut_ptr(), text_len)
+        }
+    }
+
+    fn finder_end(&self, finder: &mut State, text: &mut [u8]) -> u32 {
+        unsafe { termcap_finder_end(finder, text.as_mut_ptr(), text.len()) }
+    }
+
+    fn finder_answer(&self, finder: &State, text: &[u8], out: &mut [u8], count: &mut u64) -> u32 {
+        unsafe {
+            termcap_finder_answer(
+                finder,
+                pointer(text),
+                text.len(),
                 out.as_mut_ptr(),
                 out.len(),
                 count,

@@ -8,7 +8,8 @@ use crate::generate;
 use crate::subject::{Reference, ABSENT, ACCEPTED};
 
 /// The results a reader wants to see, in this order: accepted, absent, the refusals.
-const CODES: [u32; 18] = [ACCEPTED, ABSENT, 1, 2, 3, 4, 5, 6, 7, 8, 9, 10, 11, 12, 13, 14, 15, 16];
+const CODES: [u32; 19] =
+    [ACCEPTED, ABSENT, 1, 2, 3, 4, 5, 6, 7, 8, 9, 10, 11, 12, 13, 14, 15, 16, 17];
 
 pub struct Mix {
     counts: BTreeMap<(usize, u32), u64>,
@@ -95,6 +96,8 @@ mod tests {
             Operation::RepairPromises => &[ACCEPTED, 14],
             Operation::Fill | Operation::Halves => &[ACCEPTED, 9, 10, 11, 12, 13],
             Operation::Pad => &[ACCEPTED, 9, 12],
+            Operation::Finder => &[ACCEPTED, 1, 4, 8, 9],
+            Operation::FinderState => &[ACCEPTED, 4, 8, 9, 17],
         }
     }
 

@@ -7,6 +7,8 @@
 
 pub mod batch;
 pub mod files;
+pub mod finder;
+pub mod finder_steps;
 pub mod halves;
 pub mod repair;
 pub mod search;

@@ -4,7 +4,7 @@ use std::time::{Duration, Instant};
 
 use crate::case::Case;
 
-const BYTES: [fn(&mut Case) -> &mut Vec<u8>; 7] = [
+const BYTES: [fn(&mut Case) -> &mut Vec<u8>; 8] = [
     |case| &mut case.database,
     |case| &mut case.command,
     |case| &mut case.name,
@@ -12,11 +12,13 @@ const BYTES: [fn(&mut Case) -> &mut Vec<u8>; 7] = [
     |case| &mut case.questions,
     |case| &mut case.back,
     |case| &mut case.up,
+    |case| &mut case.state,
 ];
 
-const NUMBERS: [fn(&mut Case) -> &mut u64; 9] = [
+const NUMBERS: [fn(&mut Case) -> &mut u64; 10] = [
     |case| &mut case.room,
     |case| &mut case.records_room,
+    |case| &mut case.text_room,
     |case| &mut case.row,
     |case| &mut case.column,
     |case| &mut case.lines,
@@ -48,6 +50,7 @@ pub fn shrink(case: &Case, time: Duration, fails: impl Fn(&Case) -> bool) -> Cas
             shrinking.lower(number);
         }
         shrinking.drop_ends();
+        shrinking.drop_cuts();
         for bytes in BYTES {
             shrinking.make_plain(bytes);
         }
@@ -86,6 +89,27 @@ impl<F: Fn(&Case) -> bool> Shrinking<F> {
             if !removed {
                 self.attempt(|case| case.ends.as_mut().expect("they are given")[place] /= 2);
             }
+        }
+    }
+
+    /// One block, fewer cuts, and lower ones.
+    fn drop_cuts(&mut self) {
+        if self.attempt(|case| case.cuts.clear()) {
+            return;
+        }
+        let mut size = self.case.cuts.len();
+        while size > 0 && !self.out_of_time() {
+            let mut place = 0;
+            while place < self.case.cuts.len() {
+                let end = (place + size).min(self.case.cuts.len());
+                if !self.attempt(|case| drop(case.cuts.drain(place..end))) {
+                    place += size;
+                }
+            }
+            size /= 2;
+        }
+        for place in 0..self.case.cuts.len() {
+            while self.attempt(|case| case.cuts[place] = case.cuts[place].saturating_sub(1)) {}
         }
     }
 

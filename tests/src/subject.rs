@@ -3,8 +3,9 @@
 //!
 //! Each gives the result code: 0 accepted or present, 255 absent, otherwise the refusal number.
 
+use crate::reference::finder::State;
 use crate::reference::halves::{self, Finished};
-use crate::reference::{self, Files, Position, Refusal};
+use crate::reference::{self, finder_steps, Files, Position, Refusal};
 
 pub const ACCEPTED: u32 = 0;
 pub const ABSENT: u32 = 255;
@@ -81,6 +82,10 @@ pub trait Subject {
         out: &mut [u8],
         count: &mut u64,
     ) -> u32;
+    fn finder_open(&self, name: &[u8], finder: &mut State) -> u32;
+    fn finder_feed(&self, finder: &mut State, block: &[u8], text: &mut [u8]) -> u32;
+    fn finder_end(&self, finder: &mut State, text: &mut [u8]) -> u32;
+    fn finder_answer(&self, finder: &State, text: &[u8], out: &mut [u8], count: &mut u64) -> u32;
 }
 
 /// The reference, behind the same outside.
@@ -95,6 +100,11 @@ fn accepted(result: Result<usize, Refusal>, number: &mut u64) -> u32 {
         }
         Err(refusal) => u32::from(refusal),
     }
+}
+
+/// The code of an operation that has no value.
+fn code(result: Result<(), Refusal>) -> u32 {
+    result.map_or_else(u32::from, |()| ACCEPTED)
 }
 
 /// The code of a question; the number changes only if present.
@@ -247,5 +257,21 @@ impl Subject for Reference {
     ) -> u32 {
         let finished = Finished { delay, star: star != 0, bytes: bytes.to_vec() };
         accepted(halves::pad(&finished, lines, speed, pad, out), count)
+    }
+
+    fn finder_open(&self, name: &[u8], finder: &mut State) -> u32 {
+        code(finder_steps::open(name, finder))
+    }
+
+    fn finder_feed(&self, finder: &mut State, block: &[u8], text: &mut [u8]) -> u32 {
+        code(finder_steps::feed(finder, block, text))
+    }
+
+    fn finder_end(&self, finder: &mut State, text: &mut [u8]) -> u32 {
+        code(finder_steps::end(finder, text))
+    }
+
+    fn finder_answer(&self, finder: &State, text: &[u8], out: &mut [u8], count: &mut u64) -> u32 {
+        accepted(finder_steps::answer(finder, text, out), count)
     }
 }

@@ -1,3 +1,5 @@
+use alloc::vec::Vec;
+
 use crate::Database;
 
 /// Several files, joined into one buffer with their ends: a user's own file before the common one,

@@ -1,6 +1,8 @@
 //! Send at in two halves.
 
-use std::borrow::Cow;
+use alloc::borrow::Cow;
+use alloc::vec;
+use alloc::vec::Vec;
 
 use crate::{accepted, filled_bytes, grown, size, sys, Line, Position, Refusal};
 

@@ -26,6 +26,9 @@
 //! A private file goes before the common one: [`Files`] joins them, and [`Database::with_ends`] takes
 //! them as they stand in one buffer.
 //!
+//! A [`Finder`] is for a file that arrives in blocks and is never held: it is fed the blocks and finds
+//! the line of a terminal.
+//!
 //! A function that returns a `Vec` never refuses with [`Refusal::NoRoom`]. Its twin in `_into`
 //! writes to a buffer of the caller, allocates nothing, and leaves every byte of that buffer past
 //! those it reports as it was; on a refusal, and where a string is absent, it leaves the whole
@@ -37,8 +40,8 @@
 //!
 //! # Threads and stack
 //!
-//! The library has no state and allocates nothing: its functions may be called from any thread, and
-//! from several at once. The stack that a call takes in it was measured, whatever its input:
+//! The library has no state of its own and allocates nothing: its functions may be called from any
+//! thread, and from several at once. The stack that a call takes in it was measured, whatever its input:
 //!
 //! | Functions | Bytes at most |
 //! |---|---|
@@ -47,12 +50,27 @@
 //! | [`Database::list`], [`Database::flat`] | 12,288 |
 //! | [`Database::batch`] | 71,680 |
 //! | [`Database::repair`] | 155,648 |
+//! | [`Finder::new`], [`Finder::feed`], [`Finder::finish`] | 1,024 |
 //! | [`send`], [`send_at`], [`fill`], [`Finished::send_to`] | 4,096 |
+//!
+//! # Features
+//!
+//! `std`, on by default, adds what reads and writes as `std::io` does: `Finder::feed_from`, and
+//! [`Finder`] as a writer. Without it the crate needs `core` and `alloc` alone.
 
+#![no_std]
 #![deny(missing_docs)]
 #![deny(unsafe_code)]
 
+extern crate alloc;
+#[cfg(feature = "std")]
+extern crate std;
+
+use alloc::vec;
+use alloc::vec::Vec;
+
 mod files;
+mod finder;
 mod finished;
 mod question;
 mod record;
@@ -62,6 +80,7 @@ mod removal;
 mod sys;
 
 pub use files::Files;
+pub use finder::Finder;
 pub use finished::{fill, fill_into, Finished};
 pub use question::{Answered, Question};
 pub use record::{Kind, Record};
@@ -75,6 +94,9 @@ pub const STRING_BYTES: usize = 16_384;
 pub const RECORDS: usize = 5_460;
 /// The most bytes Flat has: a chain's size and a newline.
 pub const FLAT_BYTES: usize = 16_385;
+/// Bytes of a [`Finder`]'s text that are always enough: the longest line that is not refused. This is
+/// proved (`crates/demands/specs/Finder.antt`).
+pub const FINDER_TEXT_BYTES: usize = 16_384;
 /// The most files in one database.
 pub const FILES: usize = 8;
 /// The most pads a command asks for: `9999.9*`, 1,000 lines, 115,200 bits a second.

@@ -1,5 +1,5 @@
-use std::error::Error;
-use std::fmt;
+use core::error::Error;
+use core::fmt;
 
 /// Why the library refuses to answer. The discriminants are the refusal numbers.
 // More operations may bring more refusals, so a match outside this crate keeps a wildcard.
@@ -21,7 +21,8 @@ pub enum Refusal {
     Malformed = 6,
     /// A link leads to a line already in the chain.
     Cycle = 7,
-    /// A 33rd description is reached, or the chain's size passes 16,384.
+    /// A 33rd description is reached, or the chain's size passes 16,384; or the line that a
+    /// [`Finder`](crate::Finder) found has over 16,384 bytes.
     ChainTooLarge = 8,
     /// The output doesn't fit the lent buffer.
     NoRoom = 9,
@@ -39,10 +40,13 @@ pub enum Refusal {
     PartialQuestion = 15,
     /// Ends that fall or pass the buffer, or over eight of them.
     BadEnds = 16,
+    /// A finder is fed, or ended, after its end, or asked for its answer before it. The types of
+    /// [`Finder`](crate::Finder) keep this from happening.
+    InvalidState = 17,
 }
 
 impl Refusal {
-    const ALL: [Refusal; 16] = [
+    const ALL: [Refusal; 17] = [
         Refusal::BadName,
         Refusal::BadId,
         Refusal::DatabaseTooLarge,
@@ -59,9 +63,10 @@ impl Refusal {
         Refusal::TooManyLines,
         Refusal::PartialQuestion,
         Refusal::BadEnds,
+        Refusal::InvalidState,
     ];
 
-    /// The refusal number, 1 to 16.
+    /// The refusal number, 1 to 17.
     pub fn number(self) -> u32 {
         self as u32
     }
@@ -92,6 +97,9 @@ impl fmt::Display for Refusal {
             Refusal::TooManyLines => "the database has more than 4,096 descriptions to repair",
             Refusal::PartialQuestion => "the last question of the batch is cut off",
             Refusal::BadEnds => "the files' ends fall or pass the buffer, or there are more than eight",
+            Refusal::InvalidState => {
+                "the finder has already ended, or is asked for its answer before its end"
+            }
         })
     }
 }

@@ -1,4 +1,5 @@
-use std::fmt;
+use alloc::vec::Vec;
+use core::fmt;
 
 /// Why the repair removed something. The discriminants are the numbers in a record.
 #[derive(Clone, Copy, Debug, PartialEq, Eq, Hash)]

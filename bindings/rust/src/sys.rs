@@ -2,7 +2,22 @@
 //!
 //! This is the only module with unsafe code. The numbers passed by `&mut` change only with result 0.
 
+/// `struct termcap_finder`. The library reads and writes all of it.
+#[repr(C)]
+#[allow(dead_code)]
+pub struct FinderState {
+    pub stage: u8,
+    matched: u8,
+    pub count: u16,
+    held: u8,
+    ended: u8,
+    pub size: u16,
+    pub name: [u8; 64],
+}
+
 mod c {
+    use super::FinderState;
+
     extern "C" {
         pub fn termcap_show_files(
             db: *const u8,
@@ -153,6 +168,27 @@ mod c {
             lines: u64,
             speed: u64,
             pad: u8,
+            out: *mut u8,
+            out_len: usize,
+            count: *mut u64,
+        ) -> u32;
+        pub fn termcap_finder_open(
+            name: *const u8,
+            name_len: usize,
+            finder: *mut FinderState,
+        ) -> u32;
+        pub fn termcap_finder_feed(
+            finder: *mut FinderState,
+            block: *const u8,
+            block_len: usize,
+            text: *mut u8,
+            text_len: usize,
+        ) -> u32;
+        pub fn termcap_finder_end(finder: *mut FinderState, text: *mut u8, text_len: usize) -> u32;
+        pub fn termcap_finder_answer(
+            finder: *const FinderState,
+            text: *const u8,
+            text_len: usize,
             out: *mut u8,
             out_len: usize,
             count: *mut u64,
@@ -449,6 +485,41 @@ pub fn pad(
             lines,
             speed,
             pad,
+            out.as_mut_ptr(),
+            out.len(),
+            count,
+        )
+    }
+}
+
+/// Gives the state, and the result: a refused finder has ended.
+pub fn finder_open(name: &[u8]) -> (FinderState, u32) {
+    let mut finder =
+        FinderState { stage: 0, matched: 0, count: 0, held: 0, ended: 0, size: 0, name: [0; 64] };
+    // SAFETY: see above; the state is a mutable reference, and any bytes of it are good.
+    let result = unsafe { c::termcap_finder_open(name.as_ptr(), name.len(), &mut finder) };
+    (finder, result)
+}
+
+pub fn finder_feed(finder: &mut FinderState, block: &[u8], text: &mut [u8]) -> u32 {
+    // SAFETY: see above.
+    unsafe {
+        c::termcap_finder_feed(finder, block.as_ptr(), block.len(), text.as_mut_ptr(), text.len())
+    }
+}
+
+pub fn finder_end(finder: &mut FinderState, text: &mut [u8]) -> u32 {
+    // SAFETY: see above.
+    unsafe { c::termcap_finder_end(finder, text.as_mut_ptr(), text.len()) }
+}
+
+pub fn finder_answer(finder: &FinderState, text: &[u8], out: &mut [u8], count: &mut u64) -> u32 {
+    // SAFETY: see above.
+    unsafe {
+        c::termcap_finder_answer(
+            finder,
+            text.as_ptr(),
+            text.len(),
             out.as_mut_ptr(),
             out.len(),
             count,

@@ -1,8 +1,9 @@
 //! Calls with answers worked out by hand.
 
 use termcap_proved::{
-    fill, fill_into, send, send_at, send_at_into, send_into, Answered, Database, Files, Finished,
-    Kind, Line, NotARefusal, Position, Question, Record, Refusal, Search, FLAT_BYTES, RECORDS,
+    fill, fill_into, send, send_at, send_at_into, send_into, Answered, Database, Files, Finder,
+    Finished, Kind, Line, NotARefusal, Position, Question, Record, Refusal, Search,
+    FINDER_TEXT_BYTES, FLAT_BYTES, RECORDS,
 };
 
 const CASE: &[u8] = br"N9|aaa:am:li#30:tc=aaa-unk:
@@ -408,13 +409,13 @@ fn the_halves_refuse_in_their_order() {
 
 #[test]
 fn a_refusal_is_told_in_a_sentence_of_its_own() {
-    let texts = (1..=16).map(|number| Refusal::try_from(number).unwrap().to_string());
+    let texts = (1..=17).map(|number| Refusal::try_from(number).unwrap().to_string());
     let mut texts: Vec<String> = texts.collect();
     assert_eq!(texts[3], "no terminal in the database has this name");
     assert_eq!(texts[8], "the output does not fit the buffer");
     texts.sort();
     texts.dedup();
-    assert_eq!(texts.len(), 16);
+    assert_eq!(texts.len(), 17);
 }
 
 #[test]
@@ -454,17 +455,155 @@ fn a_batch_writes_what_it_reports_and_no_more() {
     assert_eq!(out, [1, 0, 0, 0, 0, 0, 0, 0, 0, 0, 0, 0, 0, 0, 0, 30, MARK]);
     assert_eq!(Answered::from_bytes([1, 0, 0, 0, 0, 0, 0, 0]), Some(Answered::Absent));
     assert_eq!(Answered::from_bytes([1, 0, 0, 0, 0, 0, 0, 1]), None);
-    assert_eq!(Answered::from_bytes([2, 17, 0, 0, 0, 0, 0, 0]), None);
+    assert_eq!(Answered::from_bytes([2, 99, 0, 0, 0, 0, 0, 0]), None);
     assert_eq!(Answered::Present(30).value(), Ok(Some(30)));
+}
+
+/// The line that is found in these blocks, with this much text.
+fn found(name: &str, room: usize, blocks: &[&[u8]]) -> Result<Vec<u8>, Refusal> {
+    let mut text = vec![MARK; room];
+    let mut finder = Finder::new(name, &mut text)?;
+    blocks.iter().for_each(|block| finder.feed(block));
+    finder.finish().map(<[u8]>::to_vec)
+}
+
+#[test]
+fn the_whole_case_is_found_however_it_is_cut() {
+    let line = br"NY|aaa-unk:co#80:li#48:cl=\E[H:".to_vec();
+    for length in 1..=CASE.len() {
+        let blocks: Vec<&[u8]> = CASE.chunks(length).collect();
+        assert_eq!(found("aaa-unk", 40, &blocks), Ok(line.clone()), "blocks of {length}");
+    }
+    for cut in 0..=CASE.len() {
+        let (first, second) = CASE.split_at(cut);
+        let blocks = [first, b"", second];
+        assert_eq!(found("QZ", 40, &blocks), Ok(b"QZ|aaa-nam:am@:tc=aaa:".to_vec()), "at {cut}");
+        assert_eq!(found("aaa-", 40, &blocks), Err(Refusal::UnknownName), "at {cut}");
+    }
+}
+
+#[test]
+fn pairs_comments_and_blank_lines_may_be_cut() {
+    let found = |name, blocks: &[&[u8]]| found(name, 40, blocks);
+    assert_eq!(found("n", &[b"n:am:\\", b"\n\t:co:"]), Ok(b"n:am:\t:co:".to_vec()));
+    assert_eq!(found("n", &[b"n:\\", b"E:\n"]), Ok(b"n:\\E:".to_vec()));
+    assert_eq!(found("n", &[b"n:a\\"]), Ok(b"n:a\\".to_vec()));
+    assert_eq!(found("n", &[b"# c\\", b"\nn:\n"]), Err(Refusal::UnknownName));
+    assert_eq!(found("#n", &[b"#n:\n", b"x|#", b"n:"]), Ok(b"x|#n:".to_vec()));
+    assert_eq!(found(" ", &[b" \n", b" ", b"|x"]), Ok(b" |x".to_vec()));
+    assert_eq!(found("n", &[b"n", b"\nn:am:"]), Ok(b"n".to_vec()));
+    assert_eq!(found("n", &[]), Err(Refusal::UnknownName));
+}
+
+#[test]
+fn a_found_line_has_at_most_16_384_bytes() {
+    let line = |size: usize| [b"n:".to_vec(), vec![b'x'; size - 2]].concat();
+    let (longest, over) = (line(16_384), line(16_385));
+    assert_eq!(found("n", FINDER_TEXT_BYTES, &[&longest]), Ok(longest.clone()));
+    assert_eq!(found("n", FINDER_TEXT_BYTES, &[&over]), Err(Refusal::ChainTooLarge));
+    assert_eq!(found("n", 16_383, &[&longest]), Err(Refusal::NoRoom));
+    assert_eq!(found("n", 0, &[&over]), Err(Refusal::ChainTooLarge));
+    // Other lines may be as long as they like, and so may the file.
+    assert_eq!(found("n", 2, &[&vec![b'x'; 1_100_000], b"\nn:"]), Ok(b"n:".to_vec()));
+}
+
+#[test]
+fn a_finder_is_opened_for_a_name() {
+    let mut text = [MARK; 4];
+    for name in ["", "a|b", "a:b", "a\\", "n\n", &"N".repeat(65)] {
+        assert_eq!(Finder::new(name, &mut text).err(), Some(Refusal::BadName), "{name:?}");
+    }
+    assert!(Finder::new("N".repeat(64), &mut text).is_ok());
+    assert_eq!(text, [MARK; 4]);
+}
+
+#[test]
+fn a_finder_writes_what_it_collects_and_no_more() {
+    let mut text = [MARK; 8];
+    let mut finder = Finder::new("fan", &mut text).unwrap();
+    assert_eq!(format!("{finder:?}"), r#"Finder { name: "fan", is_complete: false, .. }"#);
+    finder.feed("# hall\nvent:am:\nfan");
+    assert!(!finder.is_complete());
+    finder.feed(b"\nkiln:");
+    assert!(finder.is_complete());
+    finder.feed(vec![b'x'; 100]);
+    assert_eq!(finder.finish(), Ok(&b"fan"[..]));
+    // The names of the line before are behind it.
+    assert_eq!(text, [b'f', b'a', b'n', b't', MARK, MARK, MARK, MARK]);
+}
+
+#[cfg(feature = "std")]
+mod streams {
+    use super::*;
+    use std::io::{self, Read};
+
+    /// A stream that gives three bytes at a time, is interrupted before each, and breaks at its end.
+    struct Slow<'a> {
+        left: &'a [u8],
+        interrupted: bool,
+    }
+
+    impl Read for Slow<'_> {
+        fn read(&mut self, block: &mut [u8]) -> io::Result<usize> {
+            self.interrupted = !self.interrupted;
+            if self.interrupted {
+                return Err(io::ErrorKind::Interrupted.into());
+            }
+            if self.left.is_empty() {
+                return Err(io::ErrorKind::BrokenPipe.into());
+            }
+            let part = block.len().min(3);
+            self.left.read(&mut block[..part])
+        }
+    }
+
+    #[test]
+    fn a_stream_is_read_until_the_line_is_complete() {
+        let (mut text, mut block) = ([0; 40], [0; 16]);
+        let mut stream = Slow { left: b"kiln:\nvent|fan:\\\n\t:am:\nmore:", interrupted: false };
+        let mut finder = Finder::new("fan", &mut text).unwrap();
+        finder.feed_from(&mut stream, &mut block).unwrap();
+        // The line's newline is the 23rd byte, and they come in parts of three.
+        assert_eq!(stream.left, b"ore:");
+        assert_eq!(finder.finish(), Ok(&b"vent|fan:\t:am:"[..]));
+    }
+
+    #[test]
+    fn a_stream_that_breaks_is_told() {
+        let (mut text, mut block) = ([0; 40], [0; 16]);
+        let mut finder = Finder::new("fan", &mut text).unwrap();
+        let broken = finder.feed_from(Slow { left: b"vent|", interrupted: false }, &mut block);
+        assert_eq!(broken.unwrap_err().kind(), io::ErrorKind::BrokenPipe);
+        // The rest of the file may come from elsewhere.
+        finder.feed_from(&b"fan:am:"[..], &mut block).unwrap();
+        let empty = finder.feed_from(&b"co#40:"[..], &mut []);
+        assert_eq!(empty.unwrap_err().kind(), io::ErrorKind::InvalidInput);
+        assert_eq!(finder.finish(), Ok(&b"vent|fan:am:"[..]));
+    }
+
+    #[test]
+    fn a_megabyte_is_found_in_with_little_memory() {
+        let (mut text, mut block) = ([0; FINDER_TEXT_BYTES], [0; 512]);
+        let sample = include_bytes!("../../../data/sample.tc");
+        let stream = io::repeat(b'#').take(1_048_576).chain(&b"\n"[..]).chain(&sample[..]);
+        let mut finder = Finder::new("press-2", &mut text).unwrap();
+        finder.feed_from(stream, &mut block).unwrap();
+        let line = finder.finish().unwrap();
+        assert_eq!(
+            line,
+            b"press-1|press-2|eccentric presses 1 and 2:\
+\t:k1=\\EOP:k2=\\EOQ:TN#160:ST=\\E[7mstroke\\E[m:pO=\\E[5i:pf=\\E[4i:tc=hall:"
+        );
+    }
 }
 
 #[test]
 fn refusals_and_kinds_have_their_numbers() {
-    for number in 1..=16 {
+    for number in 1..=17 {
         let refusal = Refusal::try_from(number).unwrap();
         assert_eq!(refusal.number(), number);
     }
-    for number in [0, 17, 255, u32::MAX] {
+    for number in [0, 99, 255, u32::MAX] {
         assert_eq!(Refusal::try_from(number), Err(NotARefusal(number)));
     }
     assert_eq!(Refusal::BadName.number(), 1);
@@ -472,7 +611,8 @@ fn refusals_and_kinds_have_their_numbers() {
     assert_eq!(Refusal::TooManyLines.number(), 14);
     assert_eq!(Refusal::PartialQuestion.number(), 15);
     assert_eq!(Refusal::BadEnds.number(), 16);
-    assert_eq!(NotARefusal(17).to_string(), "17 is no refusal number");
+    assert_eq!(Refusal::InvalidState.number(), 17);
+    assert_eq!(NotARefusal(99).to_string(), "99 is no refusal number");
 
     assert_eq!(Kind::from_number(3), Some(Kind::String));
     assert_eq!(Kind::from_number(4), None);

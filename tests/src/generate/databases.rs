@@ -27,6 +27,8 @@ pub fn fill_in(random: &mut Random, case: &mut Case) {
         Operation::Properties => 0,
         // Few of the cases are of these, and they have few refusals.
         Operation::Show | Operation::Search => 20,
+        // To the finder no file is too large.
+        Operation::Finder | Operation::FinderState => 2,
         _ => 8,
     };
     let made = database(random, huge_share);
