@@ -5,14 +5,13 @@ use Prim.Native.Nat.{ℕ, _+_}
 use mathlib.Core.Path.{_≡_, refl, _∙_, ap, sym}
 use mathlib.Core.Bool.{Bool, true, false}
 use mathlib.Core.List.{List, [], _∷_, _++_, append-nil}
-use lib.Dec.{eqb}
 use lib.ListN.{length}
-use Rattle.spec.specs.Choice.{pick, both}
+use Rattle.spec.specs.Choice.{pick}
 use Rattle.spec.proofs.Tests.{clash}
 use Rattle.spec.specs.Lists.{holds}
-use Rattle.spec.specs.Lines.{Text, end, byte, join, textAt, Line, lineText, laterLines, linesFrom, blank, comment, isIgnored, hasName}
+use Rattle.spec.specs.Lines.{join, textAt, Line, lineText, laterLines, linesFrom, blank, comment, isIgnored, hasName}
 use Rattle.spec.specs.Fields.{namesOf, Verdict, verdict}
-use Rattle.spec.proofs.WholeLines.{Free, line-free}
+use Rattle.spec.proofs.WholeLines.{Free, line-free, line-shift}
 use Rattle.spec.proofs.FieldTexts.{kept-ignored, kept-name}
 use Rattle.spec.specs.Repair.{
   linesOf,
@@ -34,24 +33,6 @@ use Rattle.spec.specs.Repair.{
 }
 use Rattle.spec.proofs.Chunks.{Chunk, closed-chunk, Open, LineByLine, last, more, lineOf, line-by-line}
 use Rattle.spec.proofs.KeptFields.{stands, verdict-kept, verdict-mended, closedText, closed-is, closed-ends, closed-tail, mended-free}
-
--- ---- a line's text does not depend on where it stands
-
-text-byte : (b n m : ℕ) (t u : Text) → lineText t ≡ lineText u → lineText (byte b n t) ≡ lineText (byte b m u)
-unfolding lineText
-text-byte b n m t u e = ap (λ (l : List ℕ). pick (eqb b 10) [] (b ∷ l)) e
-
-text-moved : (a b : ℕ) (s : List ℕ) → lineText (join a s) ≡ lineText (join b s)
-unfolding join
-text-moved a b [] = refl
-text-moved a b (x ∷ []) = text-byte x (a + 1) (b + 1) end end refl
-text-moved a b (x ∷ y ∷ s) = go (both (eqb x 92) (eqb y 10)) (text-moved (a + 1 + 1) (b + 1 + 1) s) (text-moved (a + 1) (b + 1) (y ∷ s))
-  where
-    go : (t : Bool) → lineText (join (a + 1 + 1) s) ≡ lineText (join (b + 1 + 1) s) → lineText (join (a + 1) (y ∷ s)) ≡ lineText (join (b + 1) (y ∷ s))
-        → lineText (pick t (join (a + 1 + 1) s) (byte x (a + 1) (join (a + 1) (y ∷ s))))
-        ≡ lineText (pick t (join (b + 1 + 1) s) (byte x (b + 1) (join (b + 1) (y ∷ s))))
-    go true e f = e
-    go false e f = text-byte x (a + 1) (b + 1) _ _ f
 
 module _ (removed : List Removed) where
   -- ---- a line and what it was mended to
@@ -137,7 +118,7 @@ module _ (removed : List Removed) where
     unfolding left
     open-case s t o own (gone d e) to = rw (d, e) (last-empty to)
     open-case s t o own (kept d e same) to =
-        let m : lineText (join to s) ≡ l .text = text-moved to (l .start) s ∙ sym t in
+        let m : lineText (join to s) ≡ l .text = line-shift to (l .start) s ∙ sym t in
         rw (d, e, own, append-nil s, m, o to 0 .0) (same, tt)
     open-case s t o own (changed u d e k same) to =
         let w = k to [] in

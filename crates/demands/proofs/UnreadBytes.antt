@@ -4,11 +4,10 @@ use mathlib.Core.Path.{_≡_, refl, _∙_, ap, sym}
 use mathlib.Core.Bool.{Bool, true, false}
 use mathlib.Core.List.{List, [], _∷_}
 use native.Mathlib.Omega.{arith}
-use borrow.Author.Tests.{leb-true}
-use lib.Dec.{eqb, leb}
+use lib.Dec.{eqb}
 use lib.ListN.{length, take, drop, getD}
 use lib.Seq.{take-take}
-use Rattle.spec.specs.Choice.{pick, between}
+use Rattle.spec.specs.Choice.{pick}
 use Rattle.spec.specs.Refusals.{goodName, tooLarge}
 use Rattle.spec.specs.Lists.{among}
 use Rattle.spec.specs.Lines.{extent}
@@ -30,8 +29,7 @@ use Rattle.spec.specs.declared.Written.{Written}
 use Rattle.spec.specs.declared.Written.the-variants.{Refused as NotWritten}
 use Rattle.spec.specs.declared.Shown.{Shown}
 use Rattle.spec.specs.declared.Shown.the-variants.{Refused as NotShown}
-use Rattle.spec.proofs.Tests.{both-true}
-use Rattle.spec.proofs.FileParts.{good-rising, length-contents, located-in, located-extent}
+use Rattle.spec.proofs.FileParts.{rises, good-rising, length-contents, located-in, located-extent}
 use Rattle.demands.specs.UnreadBytes.{lastEnd, Unread}
 
 -- ---- a window of bytes that agree up to its end
@@ -47,25 +45,19 @@ window a b n m last e h = sym (cut-window a n m last h) ∙ ap (λ (l : List ℕ
 
 -- ---- no end is above the last
 
-rising-from : (from size e : ℕ) (es : List ℕ) → rising from size (e ∷ es) ≡ true → (from ≤ e) × (rising e size es ≡ true)
-unfolding rising
-rising-from from size e es r =
-    let b = both-true (between from size e) (rising e size es) r in
-    (leb-true from e (both-true (leb from e) (leb e size) (b .0) .0), b .1)
-
 rising-last : (from size e : ℕ) (es : List ℕ) → rising from size (e ∷ es) ≡ true → e ≤ lastEnd (e ∷ es)
 unfolding lastEnd
 rising-last from size e [] r = omega arith
 rising-last from size e (f ∷ es) r =
-    let more = rising-from from size e (f ∷ es) r .1 in
-    omega (arith, rising-from e size f es more .0, rising-last e size f es more)
+    let more = rises from size e (f ∷ es) r .later in
+    omega (arith, rises e size f es more .low, rising-last e size f es more)
 
 last-of : (k : ℕ) (from size : ℕ) (ends : List ℕ) → rising from size ends ≡ true → k < length ends → getD ends k 0 ≤ lastEnd ends
 unfolding lastEnd
 last-of k from size [] r h = absurd (omega arith)
 last-of zero from size (e ∷ es) r h = rising-last from size e es r
 last-of (suc k) from size (e ∷ []) r h = absurd (omega arith)
-last-of (suc k) from size (e ∷ f ∷ es) r h = last-of k e size (f ∷ es) (rising-from from size e (f ∷ es) r .1) (omega arith)
+last-of (suc k) from size (e ∷ f ∷ es) r h = last-of k e size (f ∷ es) (rises from size e (f ∷ es) r .later) (omega arith)
 
 -- ---- the contents
 
@@ -74,14 +66,14 @@ module _ (a b : List ℕ) (last : ℕ) (agree : take last a ≡ take last b) whe
   unfolding cutAt lastEnd
   cut-same from size [] r h = refl
   cut-same from size (e ∷ []) r h =
-      let up = rising-from from size e [] r in
-      ap (λ (f : List ℕ). f ∷ []) (window a b (e - from) from last agree (omega (arith, up .0)))
+      let up = rises from size e [] r in
+      ap (λ (f : List ℕ). f ∷ []) (window a b (e - from) from last agree (omega (arith, up .low)))
   cut-same from size (e ∷ f ∷ es) r h =
-      let up = rising-from from size e (f ∷ es) r in
+      let up = rises from size e (f ∷ es) r in
       let below = rising-last from size e (f ∷ es) r in
       rw (
-        window a b (e - from) from last agree (omega (arith, up .0, below)),
-        cut-same e size (f ∷ es) (up .1) h,
+        window a b (e - from) from last agree (omega (arith, up .low, below)),
+        cut-same e size (f ∷ es) (up .later) h,
       )
 
 module _ (a b ends : List ℕ) (long : length a ≡ length b) (agree : take (lastEnd ends) a ≡ take (lastEnd ends) b) where

@@ -1,23 +1,20 @@
 -- What is known of a terminal whose chain is accepted, and when a database of one line is such a chain.
 -- Assumes nothing.
-use Prim.Native.Nat.{ℕ, zero, suc, _+_, _≤_}
-use mathlib.Core.Path.{_≡_, refl, _∙_, ap, sym}
-use mathlib.Core.Bool.{Bool, true, false}
-use mathlib.Core.List.{List, [], _∷_, _++_, append-nil, append-assoc}
+use Prim.Native.Nat.{ℕ, _+_, _≤_}
+use mathlib.Core.Path.{_≡_, refl, _∙_, ap}
+use mathlib.Core.Bool.{true}
+use mathlib.Core.List.{List, [], _∷_, _++_, append-nil}
 use native.Mathlib.Omega.{arith}
-use borrow.Author.Tests.{ltb-false, le-ltb}
-use lib.Dec.{ltb}
+use borrow.Author.Tests.{le-ltb}
 use lib.ListN.{length}
-use Rattle.spec.specs.Choice.{pick}
 use Rattle.spec.specs.Lines.{textAt, lineAt}
-use Rattle.spec.specs.Files.{lineOf, findFrom}
+use Rattle.spec.specs.Files.{lineOf}
 use Rattle.spec.specs.declared.Location.{Location}
-use Rattle.spec.specs.declared.Located.{Located}
-use Rattle.spec.specs.declared.Located.the-variants.{At, Nothing}
 use Rattle.spec.proofs.WholeLines.{Free, AllFree, Holds}
 use Rattle.spec.proofs.FileLines.{line-of-free, located-holds, line-alone, found-alone}
 use Rattle.spec.specs.Lists.{holds}
-use Rattle.spec.specs.Fields.{namesOf, fieldsOf, withColons, size, lineSize, Verdict, malformedLine, noLink, linkTo, judge, verdict}
+use Rattle.spec.proofs.AcceptedWalk.{sizes, walk-way, some-line, stands}
+use Rattle.spec.specs.Fields.{namesOf, fieldsOf, withColons, size, lineSize, noLink, judge, verdict}
 use Rattle.spec.proofs.FieldTexts.{
   names-free,
   names-stop,
@@ -31,14 +28,11 @@ use Rattle.spec.proofs.FieldTexts.{
   closed-size,
   closed-line,
 }
-use Rattle.spec.specs.declared.Refusal.{Refusal}
-use Rattle.spec.specs.declared.Refusal.the-variants.{Cycle, ChainTooLarge, LostLink, UnknownName}
 use Rattle.spec.specs.Chain.{
   Chain,
   broken,
   chain,
   visited,
-  linkTarget,
   entered,
   follow,
   walk,
@@ -75,11 +69,6 @@ texts-placed k n (t ∷ ts) = ap (λ (us : List (List ℕ)). t ∷ us) (texts-pl
 
 -- ---- the joined fields of lines
 
--- The sum of the sizes of the lines at these places.
-unfoldable pub sizes : List (List ℕ) → List Location → ℕ
-sizes db [] = 0
-sizes db (p ∷ ps) = lineSize (lineOf db p) + sizes db ps
-
 module _ (db : List (List ℕ)) where
   pub joined-free : (k : ℕ) (ps : List Location) → AllFree 10 (texts (joinedFields db k ps))
   unfolding joinedFields texts
@@ -104,77 +93,6 @@ module _ (db : List (List ℕ)) where
   unfolding joinedFields sizes lineSize
   first-size k p ps = rw (texts-append, texts-placed, size-append) (omega (arith, joined-size (k + 1) ps))
 
--- ---- an accepted walk
-
--- The found line follows those passed, it has a colon, and the chain's lines are not too big together with what was passed.
-pub record Walked (db : List (List ℕ)) (seen : List Location) (before : ℕ) (found : Located) (ps : List Location) : Type 0 where
-  pub first : Location
-  pub later : List Location
-  pub places : ps ≡ seen ++ first ∷ later
-  pub at : found ≡ At first
-  pub colon : holds 58 (lineOf db first) ≡ true
-  pub fits : before + sizes db (first ∷ later) ≤ 16384
-
-module _ (db : List (List ℕ)) where
-  has-colon : (l : List ℕ) (v : Verdict) → verdict l ≡ v → (v ≡ malformedLine → ⊥) → holds 58 l ≡ true
-  unfolding verdict
-  has-colon l v e n = go (holds 58 l) e
-    where
-      go : (x : Bool) → pick x (judge (fieldsOf l)) malformedLine ≡ v → x ≡ true
-      go true q = refl
-      go false q = absurd (n (sym q))
-
-  entered-chain : (seen : List Location) (before : ℕ) (q : Location) (v : Verdict) (big : Bool) (more : Chain) (ps : List Location)
-      → verdict (lineOf db q) ≡ v → ltb 16384 (before + lineSize (lineOf db q)) ≡ big
-      → (more ≡ chain ps → Walked db (seen ++ q ∷ []) (before + lineSize (lineOf db q)) (linkTarget db q v) ps)
-      → entered (seen ++ q ∷ []) v big more ≡ chain ps → Walked db seen before (At q) ps
-  unfolding sizes entered
-  entered-chain seen before q malformedLine big more ps e f ih h = let z : _≡_ {A = ℕ} 0 1 = cc in absurd (omega arith)
-  entered-chain seen before q noLink true more ps e f ih h = let z : _≡_ {A = ℕ} 0 1 = cc in absurd (omega arith)
-  entered-chain seen before q noLink false more ps e f ih h =
-      let pe : ps ≡ seen ++ q ∷ [] = cc in
-      record {
-        first = q;
-        later = [];
-        places = pe;
-        at = refl;
-        colon = has-colon (lineOf db q) noLink e (λ x. let z : _≡_ {A = ℕ} 0 1 = cc in absurd (omega arith));
-        fits = omega (arith, ltb-false 16384 (before + lineSize (lineOf db q)) f);
-      }
-  entered-chain seen before q (linkTo n) true more ps e f ih h = let z : _≡_ {A = ℕ} 0 1 = cc in absurd (omega arith)
-  entered-chain seen before q (linkTo n) false more ps e f ih h =
-      let k = ih h in
-      record {
-        first = q;
-        later = k .first ∷ k .later;
-        places = k .places ∙ append-assoc seen (q ∷ []) (k .first ∷ k .later);
-        at = refl;
-        colon = has-colon (lineOf db q) (linkTo n) e (λ x. let z : _≡_ {A = ℕ} 0 1 = cc in absurd (omega arith));
-        fits = omega (arith, k .fits);
-      }
-
-  pub follow-chain : (n : ℕ) (seen : List Location) (before : ℕ) (missing : Refusal) (found : Located) (ps : List Location)
-      → follow db n seen before missing found ≡ chain ps → Walked db seen before found ps
-  unfolding follow
-  follow-chain zero seen before missing (At q) ps h = go (visited q seen) h
-    where
-      go : (x : Bool) → pick x (broken Cycle) (broken ChainTooLarge) ≡ chain ps → Walked db seen before (At q) ps
-      go true h = let z : _≡_ {A = ℕ} 0 1 = cc in absurd (omega arith)
-      go false h = let z : _≡_ {A = ℕ} 0 1 = cc in absurd (omega arith)
-  follow-chain zero seen before missing Nothing ps h = let z : _≡_ {A = ℕ} 0 1 = cc in absurd (omega arith)
-  follow-chain (suc n) seen before missing Nothing ps h = let z : _≡_ {A = ℕ} 0 1 = cc in absurd (omega arith)
-  follow-chain (suc n) seen before missing (At q) ps h =
-      go (visited q seen) (follow-chain n (seen ++ q ∷ []) (before + lineSize (lineOf db q)) LostLink (linkTarget db q (verdict (lineOf db q))) ps) h
-    where
-      more : Chain
-      more = follow db n (seen ++ q ∷ []) (before + lineSize (lineOf db q)) LostLink (linkTarget db q (verdict (lineOf db q)))
-
-      go : (x : Bool) → (more ≡ chain ps → Walked db (seen ++ q ∷ []) (before + lineSize (lineOf db q)) (linkTarget db q (verdict (lineOf db q))) ps)
-          → pick x (broken Cycle) (entered (seen ++ q ∷ []) (verdict (lineOf db q)) (ltb 16384 (before + lineSize (lineOf db q))) more) ≡ chain ps
-          → Walked db seen before (At q) ps
-      go true ih h = let z : _≡_ {A = ℕ} 0 1 = cc in absurd (omega arith)
-      go false ih h = entered-chain seen before q (verdict (lineOf db q)) _ more ps refl refl ih h
-
 -- ---- an accepted terminal
 
 -- The names are those of a line that holds the asked name; names and texts have no newline and no colon; all of it is not too big.
@@ -190,17 +108,16 @@ pub record Sound (name names : List ℕ) (ts : List (List ℕ)) : Type 0 where
   pub fits : length names + 1 + size ts ≤ 16384
 
 pub resolved-sound : (db : List (List ℕ)) (name names : List ℕ) (fs : List Field) → resolve db name ≡ terminal names fs → Sound name names (texts fs)
-unfolding resolve described firstNames
+unfolding resolve described firstNames sizes
 resolved-sound db name names fs e = go (walk db name) refl e
   where
     go : (c : Chain) → walk db name ≡ c → described db c ≡ terminal names fs → Sound name names (texts fs)
     go (broken r) w h = let z : _≡_ {A = ℕ} 0 1 = cc in absurd (omega arith)
-    go (chain ps) w h =
-        let k = follow-chain db 32 [] 0 UnknownName (findFrom db 0 name) ps (unfold walk in w) in
-        let p : Location = k .first in
-        let e = rw (k .places) at h in
+    go (chain []) w h = absurd (some-line db (walk-way db name [] w) refl)
+    go (chain (p ∷ ps)) w h =
+        let k = stands db p ps (walk-way db name (p ∷ ps) w) refl in
         let en : names ≡ namesOf (lineOf db p) = cc in
-        let ef : fs ≡ joinedFields db 0 (p ∷ k .later) = cc in
+        let ef : fs ≡ joinedFields db 0 (p ∷ ps) = cc in
         rw (en, ef) (record {
           line = lineOf db p;
           colon = k .colon;
@@ -208,9 +125,9 @@ resolved-sound db name names fs e = go (walk db name) refl e
           held = located-holds db name 0 p (k .at);
           names-free = names-free 10 (lineOf db p) (line-of-free db p);
           names-stop = names-stop (lineOf db p);
-          free = joined-free db 0 (p ∷ k .later);
-          stop = joined-stop db 0 (p ∷ k .later);
-          fits = omega (arith, first-size db 0 p (k .later), k .fits);
+          free = joined-free db 0 (p ∷ ps);
+          stop = joined-stop db 0 (p ∷ ps);
+          fits = omega (arith, first-size db 0 p ps, k .fits);
         })
 
 -- ---- a database of one line

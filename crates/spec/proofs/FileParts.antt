@@ -1,24 +1,21 @@
 -- Where the files lie in the buffer: the ends, the bytes of a file, and a line that is found in one.
 -- Assumes nothing.
 use Prim.Native.Nat.{ℕ, zero, suc, _+_, _-_, _≤_, _<_}
-use mathlib.Core.Path.{_≡_, refl, ap, sym}
-use mathlib.Core.Bool.{Bool, true}
+use mathlib.Core.Path.{_≡_, refl, ap}
+use mathlib.Core.Bool.{true}
 use mathlib.Core.List.{List, [], _∷_}
 use native.Mathlib.Omega.{arith}
 use borrow.Author.Tests.{leb-true}
 use lib.Dec.{leb}
 use lib.ListN.{length, take, drop, getD, length-take, length-drop}
-use Rattle.spec.specs.Choice.{both, between}
-use Rattle.spec.specs.Lines.{findLine, extent}
-use Rattle.spec.specs.Files.{Files, rising, goodEnds, cutAt, contents, fileStart, fileAt, orLater, locate, findFrom}
-use Rattle.spec.specs.declared.Found.{Found}
-use Rattle.spec.specs.declared.Found.the-variants.{At as FoundAt, Nothing as NotFound}
+use Rattle.spec.specs.Choice.{between}
+use Rattle.spec.specs.Lines.{extent}
+use Rattle.spec.specs.Files.{Files, rising, goodEnds, cutAt, contents, fileStart, fileAt, findFrom}
 use Rattle.spec.specs.declared.Location.{Location}
-use Rattle.spec.specs.declared.Located.{Located}
-use Rattle.spec.specs.declared.Located.the-variants.{At, Nothing}
+use Rattle.spec.specs.declared.Located.the-variants.{At}
 use Rattle.spec.proofs.Tests.{both-true}
 use Rattle.spec.proofs.Extents.{extent-inside, found-inside}
-use Rattle.spec.proofs.FileLines.{drop-here, drop-after}
+use Rattle.spec.proofs.FileLines.{located-line}
 
 -- ---- the bytes of a file
 
@@ -55,14 +52,23 @@ file-short db k = cut-short k 0 (db .bytes) (db .ends)
 
 -- ---- ends that do not fall, nor pass the buffer
 
-rising-at : (size k from : ℕ) (ends : List ℕ) → rising from size ends ≡ true → k < length ends
-    → (getD (from ∷ ends) k 0 ≤ getD ends k 0) × (getD ends k 0 ≤ size)
+pub record Rises (from size e : ℕ) (es : List ℕ) : Type 0 where
+  pub low : from ≤ e
+  pub high : e ≤ size
+  pub later : rising e size es ≡ true
+
+pub rises : (from size e : ℕ) (es : List ℕ) → rising from size (e ∷ es) ≡ true → Rises from size e es
 unfolding rising
+rises from size e es h =
+    let w = both-true (between from size e) (rising e size es) h in
+    let b = both-true (leb from e) (leb e size) (w .0) in
+    record { low = leb-true from e (b .0); high = leb-true e size (b .1); later = w .1 }
+
+pub rising-at : (size k from : ℕ) (ends : List ℕ) → rising from size ends ≡ true → k < length ends
+    → (getD (from ∷ ends) k 0 ≤ getD ends k 0) × (getD ends k 0 ≤ size)
 rising-at size k from [] r h = absurd (omega arith)
-rising-at size zero from (e ∷ es) r h =
-    let b = both-true (leb from e) (leb e size) (both-true (between from size e) (rising e size es) r .0) in
-    (leb-true from e (b .0), leb-true e size (b .1))
-rising-at size (suc k) from (e ∷ es) r h = rising-at size k e es (both-true (between from size e) (rising e size es) r .1) (omega arith)
+rising-at size zero from (e ∷ es) r h = let w = rises from size e es r in (w .low, w .high)
+rising-at size (suc k) from (e ∷ es) r h = rising-at size k e es (rises from size e es r .later) (omega arith)
 
 module _ (db : Files) (good : goodEnds db ≡ true) where
   pub good-few : length (db .ends) ≤ 8
@@ -84,26 +90,12 @@ module _ (db : Files) (good : goodEnds db ≡ true) where
 
 -- ---- a line that is found lies in its file
 
-module _ (fs : List (List ℕ)) (name : List ℕ) where
-  -- There is the file, and the line starts in it.
-  abbrev In : Location → Type 0
-  In l = (l .file < length fs) × (l .at ≤ length (fileAt fs (l .file)))
-
-  locate-in : (k : ℕ) (gs : List (List ℕ)) (l : Location) → gs ≡ drop k fs → locate k gs name ≡ At l → In l
-  unfolding locate fileAt
-  locate-in k [] l d e = let z : _≡_ {A = ℕ} 0 1 = cc in absurd (omega arith)
-  locate-in k (g ∷ gs) l d e = go (findLine g name) refl (locate-in (k + 1) gs l (drop-after k g gs fs d)) e
-    where
-      go : (x : Found) → findLine g name ≡ x → (locate (k + 1) gs name ≡ At l → In l) → orLater k x (locate (k + 1) gs name) ≡ At l → In l
-      go (FoundAt p) h ih q =
-          let i : record { file = k; at = p } ≡ l = cc in
-          let n = simp length-drop at (ap length d) in
-          rw (← i, drop-here k g gs fs d) (omega (arith, n), found-inside g name p h)
-      go NotFound h ih q = ih q
-
-  pub located-in : (k : ℕ) (l : Location) → findFrom fs k name ≡ At l → In l
-  unfolding findFrom
-  located-in k l e = locate-in k (drop k fs) l refl e
+-- There is the file, and the line starts in it.
+pub located-in : (fs : List (List ℕ)) (name : List ℕ) (k : ℕ) (l : Location) → findFrom fs k name ≡ At l
+    → (l .file < length fs) × (l .at ≤ length (fileAt fs (l .file)))
+located-in fs name k l e =
+    let h = located-line fs name k l e in
+    (h .0, found-inside (fileAt fs (l .file)) name (l .at) (h .1))
 
 -- The description that Show shows lies in its file, from its start on.
 pub located-extent : (db : Files) (name : List ℕ) (l : Location) → goodEnds db ≡ true → findFrom (contents db) 0 name ≡ At l

@@ -64,6 +64,15 @@ module _ (db : Files) (name names : List ℕ) (fs : List Field) (e : terminalOf 
       go true false q = q
       go false y q = let z : _≡_ {A = ℕ} 0 1 = cc in absurd (omega arith)
 
+  pub opened-size : tooLarge (db .bytes) ≡ false
+  opened-size = go (goodName name) (tooLarge (db .bytes)) refl past-ends
+    where
+      go : (x y : Bool) → tooLarge (db .bytes) ≡ y → pick x (pick y (refused DatabaseTooLarge) (resolve (contents db) name)) (refused BadName)
+          ≡ terminal names fs → tooLarge (db .bytes) ≡ false
+      go true true h q = let z : _≡_ {A = ℕ} 0 1 = cc in absurd (omega arith)
+      go true false h q = h
+      go false y h q = let z : _≡_ {A = ℕ} 0 1 = cc in absurd (omega arith)
+
 -- ---- answers over terminals
 
 pub answer-flat : (id : List ℕ) (k : Kind) (names : List ℕ) (fs : List Field)

@@ -18,7 +18,7 @@ free-append : (c : ℕ) (x y : List ℕ) → Free c x → Free c y → Free c (x
 free-append c [] y h k = k
 free-append c (b ∷ x) y h k = (h .0, free-append c x y (h .1) k)
 
-colons-free : (ts : List (List ℕ)) → AllFree 10 ts → Free 10 (withColons ts)
+pub colons-free : (ts : List (List ℕ)) → AllFree 10 ts → Free 10 (withColons ts)
 unfolding withColons
 colons-free [] h = tt
 colons-free (t ∷ ts) h = free-append 10 t (58 ∷ withColons ts) (h .0) ((λ e. omega arith), colons-free ts (h .1))

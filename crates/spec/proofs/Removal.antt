@@ -49,7 +49,7 @@ matches-wins id k (capability a b s) h e =
     let j = eqb-true k (contentKind s) (w .1) in
     rw (ne-eqb 0 (contentKind s) (omega arith))
 
-win-judged : (r : Reading) (ts : List (List ℕ)) (v : Verdict) → canWin r ≡ true → judged r ts v ≡ v
+pub win-judged : (r : Reading) (ts : List (List ℕ)) (v : Verdict) → canWin r ≡ true → judged r ts v ≡ v
 unfolding canWin judged
 win-judged malformed ts v e = clash (sym e)
 win-judged ignored ts v e = clash (sym e)

@@ -158,7 +158,7 @@ other-length x y h = go (same x y) refl
 
 -- ---- a part of the database: a line's text does not depend on where its bytes stand
 
-line-shift : (i j : ℕ) (s : List ℕ) → lineText (join i s) ≡ lineText (join j s)
+pub line-shift : (i j : ℕ) (s : List ℕ) → lineText (join i s) ≡ lineText (join j s)
 unfolding join lineText
 line-shift i j [] = refl
 line-shift i j (b ∷ []) = refl

@@ -88,6 +88,9 @@ module _ (fs : List Field) where
   pub winning-free : (c : ℕ) → AllFree c (texts fs) → AllFree c (texts (winning fs))
   winning-free c h = rw (winning-is-removal fs) (removal-free c fs h)
 
+  pub winning-size : size (texts (winning fs)) ≤ size (texts fs)
+  winning-size = rw (winning-is-removal fs) (removal-size fs)
+
   pub winning-sound : (name names : List ℕ) → Sound name names (texts fs) → Sound name names (texts (winning fs))
   winning-sound name names k = rw (winning-is-removal fs) (removal-sound name names fs k)
 
