@@ -93,7 +93,7 @@ unfolding oneLine
 put-line bytes buffer h = rw (put-room bytes (length bytes) buffer h) (take-append-seam bytes (drop (length bytes) buffer))
 
 -- an answer that says only whether there is room
-put-like : (a b : List ℕ) (n : ℕ) (buffer : List ℕ) → length a ≡ length b → put a n buffer .answer ≡ put b n buffer .answer
+pub put-like : (a b : List ℕ) (n : ℕ) (buffer : List ℕ) → length a ≡ length b → put a n buffer .answer ≡ put b n buffer .answer
 unfolding put
 put-like a b n buffer e = rw e (go (leb (length b) (length buffer)))
   where
@@ -161,7 +161,7 @@ ground-record p n ignored w = clash (sym w)
 ground-record p n (link m) w = clash (sym w)
 ground-record p n (capability a b s) w = refl
 
-ground-records : (fs : List Field) → AllWin (texts fs) → recordList (placed 0 0 (texts fs)) ≡ map atPlaceZero (recordList fs)
+pub ground-records : (fs : List Field) → AllWin (texts fs) → recordList (placed 0 0 (texts fs)) ≡ map atPlaceZero (recordList fs)
 unfolding recordList placed texts
 ground-records [] h = refl
 ground-records (f ∷ fs) h = rw (ground-record (f .place) (f .file) (reading (f .text)) (h .0), ground-records fs (h .2))
@@ -311,7 +311,7 @@ module _ (db : Files) (name names : List ℕ) (fs : List Field) (accepted : Acce
   small : AllSmall (texts (winning fs))
   small = values-small (texts (winning fs)) (omega (arith, winning-sound fs name names (sound db name names fs accepted) .fits))
 
-  list-is : (buffer : List ℕ) → listOutcome db name buffer ≡ put (records (winning fs)) (length (winning fs)) buffer
+  pub list-is : (buffer : List ℕ) → listOutcome db name buffer ≡ put (records (winning fs)) (length (winning fs)) buffer
   unfolding listOutcome listFor
   list-is buffer = rw accepted
 
@@ -323,10 +323,10 @@ module _ (db : Files) (name names : List ℕ) (fs : List Field) (accepted : Acce
       { answer = Count (length (winning fs)); buffer = records (winning fs) ++ drop (length (records (winning fs))) buffer }
   list-room buffer h = list-is buffer ∙ put-room (records (winning fs)) (length (winning fs)) buffer (rw (list-is buffer) at h)
 
-  line-is : (buffer : List ℕ) → HasRoom (flatOutcome db name buffer .answer) → oneLine (flatOutcome db name buffer) ≡ flatText names fs
+  pub line-is : (buffer : List ℕ) → HasRoom (flatOutcome db name buffer .answer) → oneLine (flatOutcome db name buffer) ≡ flatText names fs
   line-is buffer h = ap oneLine (flat-is buffer) ∙ put-line (flatText names fs) buffer (rw (flat-is buffer) at h)
 
-  listed-is : (buffer : List ℕ) → HasRoom (listOutcome db name buffer .answer) → listed (listOutcome db name buffer) ≡ recordList (winning fs)
+  pub listed-is : (buffer : List ℕ) → HasRoom (listOutcome db name buffer .answer) → listed (listOutcome db name buffer) ≡ recordList (winning fs)
   listed-is buffer h = ap listed (list-is buffer) ∙ put-listed (winning fs) buffer wins (rw (list-is buffer) at h)
 
   positive : (k : Kind) → 0 < kindNumber k

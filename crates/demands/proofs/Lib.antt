@@ -19,3 +19,12 @@ pub mod Halves
 pub mod Cutting
 pub mod Collected
 pub mod Finder
+pub mod EditedFile
+pub mod EditedEnds
+pub mod EditedSearch
+pub mod EditedWalk
+pub mod PastedFields
+pub mod PastedLine
+pub mod PastedFiles
+pub mod Pasting
+pub mod PastedExamples

@@ -13,3 +13,5 @@ pub mod RepairRoom
 pub mod Batch
 pub mod Halves
 pub mod Finder
+pub mod Pasting
+pub mod PastedExamples
