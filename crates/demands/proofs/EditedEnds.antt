@@ -6,7 +6,7 @@ use mathlib.Core.Bool.{true}
 use mathlib.Core.List.{List, [], _∷_, _++_, map, append-assoc}
 use native.Mathlib.Omega.{arith}
 use borrow.Author.Tests.{le-leb}
-use lib.ListN.{length, take, drop, getD, set, length-append, length-drop, length-map, take-append-drop}
+use lib.ListN.{length, take, drop, getD, set, length-append, length-take, length-drop, length-map, take-append-drop}
 use lib.Seq.{drop-drop, length-take-le, take-at, drop-at, take-append-le, drop-append-le, take-append-add, drop-append-add}
 use Rattle.spec.specs.Files.{Files, files, rising, goodEnds, cutAt, contents, fileStart, fileAt}
 use Rattle.spec.proofs.FileParts.{rises, rising-at, good-few, good-rising, file-inside}
@@ -84,14 +84,7 @@ module _ (new : List ℕ) (a old : ℕ) where
       (sym (append-assoc (take a f) (new ++ drop (a + old) f) r ∙ ap (λ (l : List ℕ). take a f ++ l) (append-assoc new (drop (a + old) f) r)))
 
   edit-length : (f : List ℕ) → a + old ≤ length f → length (inFile f) ≡ length f - old + length new
-  edit-length f h =
-      omega (
-        arith,
-        length-append (take a f) (new ++ drop (a + old) f),
-        length-append new (drop (a + old) f),
-        length-take-le a f (omega arith),
-        length-drop (a + old) f,
-      )
+  edit-length f h = simp (length-append, length-take, length-drop) (omega arith)
 
   cut-here : (from size e : ℕ) (s es : List ℕ) → rising from size (e ∷ es) ≡ true → from + length s ≡ size → a + old ≤ length (take (e - from) s)
       → cutOff from (inBytes 0 s) (moved old (length new) e ∷ map (moved old (length new)) es)
@@ -182,28 +175,11 @@ module _ (db : Files) (k a old : ℕ) (new : List ℕ) (good : goodEnds db ≡ t
 
   buffer-length : length buffer ≡ moved old (length new) (length (db .bytes))
   unfolding replaced
-  buffer-length =
-      let s : ℕ = fileStart db k + a in
-      omega (
-        arith,
-        inside .0,
-        inside .1,
-        length-append (take s (db .bytes) ++ new) (drop (s + old) (db .bytes)),
-        length-append (take s (db .bytes)) new,
-        length-take-le s (db .bytes) (omega (arith, inside .0, inside .1)),
-        length-drop (s + old) (db .bytes),
-      )
+  buffer-length = simp (length-append, length-take, length-drop) (omega (arith, inside .0, inside .1))
 
   ends-length : length ends ≡ length (db .ends)
   unfolding movedEnds
-  ends-length =
-      omega (
-        arith,
-        length-append (take k (db .ends)) (map (moved old (length new)) (drop k (db .ends))),
-        length-take-le k (db .ends) (omega arith),
-        length-map (drop k (db .ends)) (moved old (length new)),
-        length-drop k (db .ends),
-      )
+  ends-length = simp (length-append, length-take, length-map, length-drop) (omega arith)
 
   rise′ : rising 0 (length buffer) ends ≡ true
   unfolding movedEnds fileStart

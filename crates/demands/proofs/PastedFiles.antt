@@ -12,6 +12,7 @@ use Rattle.spec.specs.Chain.{chain, walk, Field, texts, joinedFields, firstName
 use Rattle.spec.specs.Lookup.{winning}
 use Rattle.spec.specs.Repair.{ownBytes}
 use Rattle.spec.specs.declared.Location.{Location}
+use Rattle.spec.specs.declared.Located.{Located}
 use Rattle.spec.proofs.WholeLines.{Holds}
 use Rattle.spec.proofs.EditedLines.{Cut, found-cut}
 use Rattle.spec.proofs.FileLines.{line-of-free, located-holds, located-line}
@@ -50,9 +51,9 @@ module _ (db : List (List ℕ)) (name : List ℕ) (l : Location) (before after :
   stood : Stands db l after before (reached .size) (findFrom db (reached .from) (reached .name))
   stood = stands db l after (reached .way) refl
 
-  -- the chain of what the link leads to is accepted on its own
-  pub linked-way : Way db 32 [] 0 (findFrom db (l .file) linked) after
-  linked-way = onward db l after linked link (reached .way) refl (reached .fewer)
+  -- the chain of what the link leads to is accepted on its own, however that line is found
+  pub linked-way : (found : Located) → found ≡ findFrom db (l .file) linked → Way db 32 [] 0 found after
+  linked-way found e = rw e (onward db l after linked link (reached .way) refl (reached .fewer))
 
   -- ---- the line
 

@@ -9,13 +9,14 @@ use lib.ListN.{length}
 use Rattle.spec.specs.Refusals.{goodName, tooLarge}
 use Rattle.spec.specs.Lines.{lineAt}
 use Rattle.spec.specs.Fields.{fieldsOf}
-use Rattle.spec.specs.Files.{Files, goodEnds, contents, fileAt, lineOf}
+use Rattle.spec.specs.Files.{Files, goodEnds, contents, fileAt, lineOf, findFrom}
 use Rattle.spec.specs.Chain.{chain, walk, Field, texts, joinedFields, firstNames, described, resolve}
 use Rattle.spec.specs.Lookup.{winning}
 use Rattle.spec.specs.Questions.{terminalOf}
 use Rattle.spec.specs.Listing.{flatText, flatOutcome}
 use Rattle.spec.specs.Repair.{ownBytes}
 use Rattle.spec.specs.declared.Location.{Location}
+use Rattle.spec.specs.declared.Located.{Located}
 use Rattle.spec.proofs.FieldTexts.{closed-fields}
 use Rattle.spec.proofs.Judging.{verdict-good}
 use Rattle.spec.proofs.FileParts.{length-contents}
@@ -63,9 +64,10 @@ module _ (db : Files) (name : List ℕ) (l : Location) (lent : List ℕ) (p : Pa
 
   linked-accepted : Accepted db (p .linked) (firstNames oldFiles (p .after)) (joinedFields oldFiles 0 (p .after))
   linked-accepted =
+      let found : Located = findFrom oldFiles 0 (p .linked) in
       accepted-walk db (p .linked) (p .after) good (verdict-good (lineOf oldFiles l) (p .linked) (p .has-link)) small
       (way-walk oldFiles (p .linked) (p .after)
-      (rw (p .same-line) (linked-way oldFiles name l (p .before) (p .after) (p .linked) (p .in-chain) (p .has-link))))
+      (linked-way oldFiles name l (p .before) (p .after) (p .linked) (p .in-chain) (p .has-link) found (p .same-line)))
 
   abbrev pasting : List (List ℕ)
   pasting = parent oldFiles name l (p .before) (p .after) (p .linked) (p .in-chain) (p .has-link)
