@@ -95,26 +95,26 @@ eqb-behind m x y = go (eqb x y) refl
     go true e = eq-eqb (m + x) (m + y) (ap (λ (z : ℕ). m + z) (eqb-true x y e))
     go false e = ne-eqb (m + x) (m + y) (λ q. eqb-false x y e (omega arith))
 
-abbrev oneLine : Location → Location → Bool
-oneLine p q = both (eqb (p .file) (q .file)) (eqb (p .at) (q .at))
+abbrev isSameLine : Location → Location → Bool
+isSameLine p q = both (eqb (p .file) (q .file)) (eqb (p .at) (q .at))
 
-file-apart : (p q : Location) → (p .file ≡ q .file → ⊥) → oneLine p q ≡ false
+file-apart : (p q : Location) → (p .file ≡ q .file → ⊥) → isSameLine p q ≡ false
 file-apart p q h = rw (ne-eqb (p .file) (q .file) h)
 
-place-apart : (k i j : ℕ) → (i ≡ j → ⊥) → oneLine (record { file = k; at = i }) (record { file = k; at = j }) ≡ false
+place-apart : (k i j : ℕ) → (i ≡ j → ⊥) → isSameLine (record { file = k; at = i }) (record { file = k; at = j }) ≡ false
 place-apart k i j h = rw (ne-eqb i j h) (both-false (eqb k k))
 
 module _ (k a to c : ℕ) (old : a < to) (new : a < c) where
-  same-line : (p q r s : Location) → Same k a to c p q → Same k a to c r s → oneLine q s ≡ oneLine p r
-  same-line p q r s (elsewhere x h) (elsewhere y g) = refl
-  same-line p q r s (elsewhere x h) (upto i l) = refl
-  same-line p q r s (elsewhere x h) (behind d) = file-apart x _ h ∙ sym (file-apart x _ h)
-  same-line p q r s (upto i l) (elsewhere y g) = refl
-  same-line p q r s (upto i l) (upto j m) = refl
-  same-line p q r s (upto i l) (behind d) = place-apart k i (c + d) (λ e. omega arith) ∙ sym (place-apart k i (to + d) (λ e. omega arith))
-  same-line p q r s (behind d) (elsewhere y g) = file-apart _ y (λ e. g (sym e)) ∙ sym (file-apart _ y (λ e. g (sym e)))
-  same-line p q r s (behind d) (upto i l) = place-apart k (c + d) i (λ e. omega arith) ∙ sym (place-apart k (to + d) i (λ e. omega arith))
-  same-line p q r s (behind d) (behind e) = ap (both (eqb k k)) (eqb-behind c d e ∙ sym (eqb-behind to d e))
+  same-again : (p q r s : Location) → Same k a to c p q → Same k a to c r s → isSameLine q s ≡ isSameLine p r
+  same-again p q r s (elsewhere x h) (elsewhere y g) = refl
+  same-again p q r s (elsewhere x h) (upto i l) = refl
+  same-again p q r s (elsewhere x h) (behind d) = file-apart x _ h ∙ sym (file-apart x _ h)
+  same-again p q r s (upto i l) (elsewhere y g) = refl
+  same-again p q r s (upto i l) (upto j m) = refl
+  same-again p q r s (upto i l) (behind d) = place-apart k i (c + d) (λ e. omega arith) ∙ sym (place-apart k i (to + d) (λ e. omega arith))
+  same-again p q r s (behind d) (elsewhere y g) = file-apart _ y (λ e. g (sym e)) ∙ sym (file-apart _ y (λ e. g (sym e)))
+  same-again p q r s (behind d) (upto i l) = place-apart k (c + d) i (λ e. omega arith) ∙ sym (place-apart k (to + d) i (λ e. omega arith))
+  same-again p q r s (behind d) (behind e) = ap (both (eqb k k)) (eqb-behind c d e ∙ sym (eqb-behind to d e))
 
   pub data AllSame : List Location → List Location → Type 0 where
     none : AllSame [] []
@@ -123,7 +123,7 @@ module _ (k a to c : ℕ) (old : a < to) (new : a < c) where
   pub visited-again : (p q : Location) (ps qs : List Location) → Same k a to c p q → AllSame ps qs → visited q qs ≡ visited p ps
   unfolding visited
   visited-again p q ps qs h none = refl
-  visited-again p q ps qs h (some r s rs ss g gs) = rw (same-line p q r s h g, visited-again p q rs ss h gs)
+  visited-again p q ps qs h (some r s rs ss g gs) = rw (same-again p q r s h g, visited-again p q rs ss h gs)
 
 -- ---- the same line has the same text, unless it is the edited one
 

@@ -28,7 +28,7 @@ use Rattle.spec.proofs.RemovedTexts.{winners, winners-twice, winners-append, li
 use Rattle.spec.proofs.Records.{records-length, placed-length}
 use Rattle.spec.proofs.FlatAlone.{asked-is, opened-ends, opened-name, opened-size, opened-resolved}
 use Rattle.demands.specs.Demand3.{Accepted, atPlaceZero}
-use Rattle.demands.specs.Pasting.{SameAnswers}
+use Rattle.demands.specs.Pasting.{AnswersKept}
 use Rattle.demands.proofs.Demand3.{put-like, recordList, ground-records, list-is, listed-is}
 
 -- The fields x before a link, the link t, ignored fields i behind it, and the joined fields q of the chain that the link leads to; or q's
@@ -130,9 +130,9 @@ module _ (names : List ℕ) (fs gs : List Field) (same : texts (winning gs) ≡ 
     unfolding flatOutcome
     flats buffer = rw (old, new) (flat-same buffer)
 
-    pub same-answers : SameAnswers db after name
+    pub answers-kept : AnswersKept db after name
     unfolding flagAnswer numberAnswer stringOutcome
-    same-answers =
+    answers-kept =
         record {
           flag = λ id. answers id Flag;
           number = λ id. answers id Number;

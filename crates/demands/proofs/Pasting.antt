@@ -26,9 +26,9 @@ use Rattle.spec.proofs.Winning.{winning-sound}
 use Rattle.spec.proofs.RemovedTexts.{texts-winning}
 use Rattle.spec.proofs.FlatAlone.{opened-ends, opened-name, opened-size, sound}
 use Rattle.demands.specs.Demand3.{Accepted, HasRoom}
-use Rattle.demands.specs.Pasting.{editedLine, edited, flatFields, Pasting, SameAnswers, Sound}
+use Rattle.demands.specs.Pasting.{editedLine, edited, flatFields, Pasting, AnswersKept, PastingSound}
 use Rattle.demands.proofs.Demand3.{line-is}
-use Rattle.demands.proofs.PastedFields.{same-answers}
+use Rattle.demands.proofs.PastedFields.{answers-kept}
 use Rattle.demands.proofs.EditedEnds.{good-edited, contents-edited}
 use Rattle.demands.proofs.PastedFiles.{parent, bounds, in-files, linked-way, PastedWalk, pasted-walk}
 
@@ -105,16 +105,16 @@ module _ (db : Files) (name : List ℕ) (l : Location) (lent : List ℕ) (p : Pa
       rw (contents-edited db (l .file) (l .at) old new good some (inside .1))
       (pasted-walk oldFiles name l (p .before) (p .after) (p .linked) (p .in-chain) (p .has-link))
 
-  same : SameAnswers db after name
-  same =
+  kept : AnswersKept db after name
+  kept =
       let places : List Location = walked .places in
       let fs : List Field = joinedFields oldFiles 0 (p .before ++ l ∷ p .after) in
       let gs : List Field = joinedFields (contents after) 0 places in
       let win : texts (winning gs) ≡ texts (winning fs) = texts-winning gs ∙ walked .same ∙ sym (texts-winning fs) in
       let new-accepted : Accepted after name (firstNames (contents after) places) gs =
       accepted-walk after name places good-after good-name (rw parent-is at (p .limit)) (walked .walks) in
-      same-answers (firstNames oldFiles (p .before ++ l ∷ p .after)) fs gs win db after name
+      answers-kept (firstNames oldFiles (p .before ++ l ∷ p .after)) fs gs win db after name
       (accepted-walk db name (p .before ++ l ∷ p .after) good good-name small (p .in-chain)) (rw (walked .names) at new-accepted)
 
-pub pasting-sound : Sound
-pasting-sound db name l lent p = rw (parent-is db name l lent p) (same db name l lent p)
+pub pasting-sound : PastingSound
+pasting-sound db name l lent p = rw (parent-is db name l lent p) (kept db name l lent p)

@@ -12,39 +12,39 @@ use Rattle.spec.specs.declared.Answer.the-variants.{Present, Absent}
 use Rattle.demands.specs.Pasting.{flatFields, edited, Pasting}
 
 -- The bytes and ends of a buffer, the file and the place of one of its lines, the name that it links to; and the edited buffer.
-pub record Edit : Type 0 where
+pub record Example : Type 0 where
   pub before : Files
   pub file : ℕ
   pub at : ℕ
   pub linked : List ℕ
   pub after : Files
 
-abbrev pub edit : Chars → List ℕ → ℕ → ℕ → Chars → Chars → List ℕ → Edit
-edit bytes ends file at linked after moved =
+abbrev pub example : Chars → List ℕ → ℕ → ℕ → Chars → Chars → List ℕ → Example
+example bytes ends file at linked after moved =
     record { before = files (ascii bytes) ends; file = file; at = at; linked = ascii linked; after = files (ascii after) moved }
 
 abbrev pub lent : List ℕ
 lent = replicate 64 0
 
-abbrev pub performed : Edit → Files
+abbrev pub performed : Example → Files
 performed e = edited (flatFields (flatOutcome (e .before) (e .linked) lent)) (record { file = e .file; at = e .at }) (e .before)
 
-abbrev pub edits : List Edit
+abbrev pub edits : List Example
 edits =
     -- ignored fields stay; the closing newline is replaced too
-    edit "n:am:tc=m: :.x\nm:co:am:le=a" (27 ∷ []) 0 0 "m" "n:am:co:am:le=a: :.x:\nm:co:am:le=a" (34 ∷ [])
+    example "n:am:tc=m: :.x\nm:co:am:le=a" (27 ∷ []) 0 0 "m" "n:am:co:am:le=a: :.x:\nm:co:am:le=a" (34 ∷ [])
     -- the last line of a file without a newline; the ends from its file on move, an empty file's too
-    ∷ edit "x:\nn:tc=m:m:co@:li#2:tc=p:\np:co:li#3:bl:\n" (10 ∷ 10 ∷ 41 ∷ []) 0 3 "m"
+    ∷ example "x:\nn:tc=m:m:co@:li#2:tc=p:\np:co:li#3:bl:\n" (10 ∷ 10 ∷ 41 ∷ []) 0 3 "m"
     "x:\nn:li#2:bl:\nm:co@:li#2:tc=p:\np:co:li#3:bl:\n" (14 ∷ 14 ∷ 45 ∷ [])
     -- a later description; ends before its file stay, an empty file's too
-    ∷ edit "x:\nn:tc=m:m:co@:li#2:tc=p:\np:co:li#3:bl:\n" (10 ∷ 10 ∷ 41 ∷ []) 2 0 "p"
+    ∷ example "x:\nn:tc=m:m:co@:li#2:tc=p:\np:co:li#3:bl:\n" (10 ∷ 10 ∷ 41 ∷ []) 2 0 "p"
     "x:\nn:tc=m:m:co@:li#2:co:li#3:bl:\np:co:li#3:bl:\n" (10 ∷ 10 ∷ 47 ∷ [])
     -- a parent without fields
-    ∷ edit "n:tc=m:\nm:" (10 ∷ []) 0 0 "m" "n:\nm:" (5 ∷ [])
+    ∷ example "n:tc=m:\nm:" (10 ∷ []) 0 0 "m" "n:\nm:" (5 ∷ [])
     -- a last field without its colon; a parent with a continued line, which is joined
-    ∷ edit "n:tc=m\nm:\\\nam\nk:" (14 ∷ 16 ∷ []) 0 0 "m" "n:am:\nm:\\\nam\nk:" (13 ∷ 15 ∷ [])
+    ∷ example "n:tc=m\nm:\\\nam\nk:" (14 ∷ 16 ∷ []) 0 0 "m" "n:am:\nm:\\\nam\nk:" (13 ∷ 15 ∷ [])
     -- a continued line: its own bytes go, and the edited line is joined
-    ∷ edit "n:a\\\nm:\\\ntc=m:\nm:co:" (20 ∷ []) 0 0 "m" "n:am:co:\nm:co:" (14 ∷ [])
+    ∷ example "n:a\\\nm:\\\ntc=m:\nm:co:" (20 ∷ []) 0 0 "m" "n:am:co:\nm:co:" (14 ∷ [])
     ∷ []
 
 abbrev pub Edited : Type 0

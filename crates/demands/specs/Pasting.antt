@@ -73,7 +73,7 @@ pub record Pasting (db : Files) (name : List ℕ) (l : Location) (lent : List �
   pub limit : tooLarge (edited (flatFields (flatOutcome db linked lent)) l db .bytes) ≡ false
 
 -- "Every question about the asked name has the same answer. For the terminal's listing only the place byte and the file number may differ."
-pub record SameAnswers (db after : Files) (name : List ℕ) : Type 0 where
+pub record AnswersKept (db after : Files) (name : List ℕ) : Type 0 where
   pub flag : (id : List ℕ) → flagAnswer after name id ≡ flagAnswer db name id
   pub number : (id : List ℕ) → numberAnswer after name id ≡ numberAnswer db name id
   pub string : (id buffer : List ℕ) → stringOutcome after name id buffer ≡ stringOutcome db name id buffer
@@ -85,6 +85,6 @@ pub record SameAnswers (db after : Files) (name : List ℕ) : Type 0 where
   pub flat : (buffer : List ℕ) → flatOutcome after name buffer ≡ flatOutcome db name buffer
 
 -- THE STATEMENT. Its proof is proofs/Pasting.
-abbrev pub Sound : Type 0
-Sound = (db : Files) (name : List ℕ) (l : Location) (lent : List ℕ) (p : Pasting db name l lent)
-    → SameAnswers db (edited (flatFields (flatOutcome db (p .linked) lent)) l db) name
+abbrev pub PastingSound : Type 0
+PastingSound = (db : Files) (name : List ℕ) (l : Location) (lent : List ℕ) (p : Pasting db name l lent)
+    → AnswersKept db (edited (flatFields (flatOutcome db (p .linked) lent)) l db) name
