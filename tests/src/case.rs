@@ -4,6 +4,7 @@ use std::fmt;
 
 use crate::finder::{self, Watched};
 use crate::halves;
+use crate::pasting;
 use crate::properties;
 use crate::random::Random;
 use crate::reference::batch::ANSWER_BYTES;
@@ -38,10 +39,13 @@ pub enum Operation {
     Finder,
     /// A finder that starts as `state`, which may be any bytes.
     FinderState,
+    /// On real calls: a link replaced by its parent's fields changes no answer. `id` is as for the
+    /// properties.
+    Pasting,
 }
 
 impl Operation {
-    pub const ALL: [Operation; 18] = [
+    pub const ALL: [Operation; 19] = [
         Operation::Show,
         Operation::Search,
         Operation::Flag,
@@ -60,6 +64,7 @@ impl Operation {
         Operation::Halves,
         Operation::Finder,
         Operation::FinderState,
+        Operation::Pasting,
     ];
 
     pub fn sends(self) -> bool {
@@ -88,7 +93,7 @@ impl Operation {
 
     pub fn takes_id(self) -> bool {
         use Operation::*;
-        matches!(self, Flag | Number | String | Properties)
+        matches!(self, Flag | Number | String | Properties | Pasting)
     }
 
     pub fn takes_room(self) -> bool {
@@ -222,8 +227,8 @@ pub fn before(case: &Case) -> Observed {
     Observed { code: u32::MAX, numbers, block, records_block, finder: None }
 }
 
-/// One call of the subject; for the properties, the call of Flat that they start from; for a finder,
-/// all its calls.
+/// One call of the subject; for the properties and for pasting, the call of Flat that they start from;
+/// for a finder, all its calls.
 pub fn observe(case: &Case, subject: &impl Subject) -> Observed {
     let mut seen = before(case);
     let end = seen.block.len() - GUARD;
@@ -240,7 +245,9 @@ pub fn observe(case: &Case, subject: &impl Subject) -> Observed {
         Operation::Number => subject.number(database, name, id, first),
         Operation::String => subject.string(database, name, id, out, first),
         Operation::List => subject.list(database, name, out, first),
-        Operation::Flat | Operation::Properties => subject.flat(database, name, out, first),
+        Operation::Flat | Operation::Properties | Operation::Pasting => {
+            subject.flat(database, name, out, first)
+        }
         Operation::Batch => subject.batch(database, name, &case.questions, out, first),
         Operation::Repair | Operation::RepairPromises => {
             subject.repair(&case.database, out, records, first, second)
@@ -276,6 +283,8 @@ pub fn disagreement(case: &Case, subject: &impl Subject) -> Option<String> {
         halves::broken(case, subject)
     } else if case.operation.finds() {
         finder::broken(case, subject)
+    } else if case.operation == Operation::Pasting {
+        pasting::broken(case, subject)
     } else {
         let expected = observe(&kept, &Reference);
         let seen = observe(case, subject);

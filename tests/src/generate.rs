@@ -13,6 +13,7 @@ mod commands;
 mod databases;
 mod files;
 mod finders;
+mod pastings;
 mod repairs;
 
 pub use databases::many_flags;
@@ -20,7 +21,7 @@ pub use databases::many_flags;
 /// Case number `index` of the run with this seed.
 pub fn case(seed: u64, index: u64) -> Case {
     let mut random = Random::for_case(seed, index);
-    let weights = [7, 7, 9, 9, 14, 11, 11, 9, 9, 9, 14, 5, 4, 6, 6, 4, 12, 6];
+    let weights = [7, 7, 9, 9, 14, 11, 11, 9, 9, 9, 14, 5, 4, 6, 6, 4, 12, 6, 4];
     let operation = Operation::ALL[random.weighted(&weights)];
     fill_in(&mut random, operation)
 }
@@ -38,6 +39,8 @@ fn fill_in(random: &mut Random, operation: Operation) -> Case {
         repairs::fill_in(random, &mut case);
     } else if operation.finds() {
         finders::fill_in(random, &mut case);
+    } else if operation == Operation::Pasting {
+        pastings::fill_in(random, &mut case);
     } else {
         databases::fill_in(random, &mut case);
         files::fill_in(random, &mut case);
@@ -95,6 +98,11 @@ fn needed(case: &Case) -> Option<u64> {
         }
         Operation::List => Some(reference::list_bytes(database, name).ok()?.len() as u64),
         Operation::Flat => Some(reference::flat_bytes(database, name).ok()?.len() as u64),
+        // What is enough for List and for Flat is enough for every string.
+        Operation::Pasting => {
+            let list = reference::list_bytes(database, name).ok()?;
+            Some(list.len().max(reference::flat_bytes(database, name).ok()?.len()) as u64)
+        }
         Operation::Batch => Some((case.questions.len() / QUESTION_BYTES * ANSWER_BYTES) as u64),
         Operation::Send => {
             reference::send_parts(&case.command, case.lines, case.speed).ok().map(with_pads)

@@ -9,6 +9,7 @@ pub mod finder;
 pub mod generate;
 pub mod halves;
 pub mod mix;
+pub mod pasting;
 pub mod properties;
 pub mod random;
 pub mod reference;

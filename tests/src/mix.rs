@@ -15,14 +15,14 @@ pub struct Mix {
     counts: BTreeMap<(usize, u32), u64>,
 }
 
-/// Counts the reference's results over the cases of a seed. For the properties it is the result of
-/// Flat that counts.
+/// Counts the reference's results over the cases of a seed. For the properties and for pasting it is
+/// the result of Flat that counts.
 pub fn measure(seed: u64, cases: u64) -> Mix {
     let mut counts = BTreeMap::new();
     for index in 0..cases {
         let mut case = generate::case(seed, index);
         let row = row_of(case.operation);
-        if case.operation == Operation::Properties {
+        if matches!(case.operation, Operation::Properties | Operation::Pasting) {
             case.room = 17_000;
         }
         let code = observe(&case, &Reference).code;
@@ -98,6 +98,7 @@ mod tests {
             Operation::Pad => &[ACCEPTED, 9, 12],
             Operation::Finder => &[ACCEPTED, 1, 4, 8, 9],
             Operation::FinderState => &[ACCEPTED, 4, 8, 9, 17],
+            Operation::Pasting => &[ACCEPTED, 5],
         }
     }
 
@@ -112,7 +113,9 @@ mod tests {
                 assert!(share >= least, "{operation:?} gives {code} in {share:.3} % of its cases");
                 counted += mix.count(operation, code);
             }
-            if operation != Operation::Properties && operation != Operation::RepairPromises {
+            let of_real_calls =
+                [Operation::Properties, Operation::RepairPromises, Operation::Pasting];
+            if !of_real_calls.contains(&operation) {
                 assert_eq!(counted, mix.total(operation), "{operation:?} gives something else");
             }
         }

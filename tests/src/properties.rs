@@ -10,7 +10,7 @@ use crate::subject::{Subject, ABSENT, ACCEPTED};
 
 /// Room for every listing and every Flat that the limits of a chain allow.
 const LIST_ROOM: u64 = 66_000;
-const FLAT_ROOM: u64 = 17_000;
+pub const FLAT_ROOM: u64 = 17_000;
 const RECORD: usize = reference::RECORD_BYTES;
 
 /// Ids asked about in one case; a listing may have thousands.
@@ -20,13 +20,13 @@ const QUESTIONS: [(u8, Operation); 3] =
     [(1, Operation::Flag), (2, Operation::Number), (3, Operation::String)];
 
 /// A database lent for several calls.
-struct Lent<'a, S> {
+pub struct Lent<'a, S> {
     case: Case,
     subject: &'a S,
 }
 
 impl<'a, S: Subject> Lent<'a, S> {
-    fn new(
+    pub fn new(
         case: &Case,
         database: Vec<u8>,
         ends: Option<Vec<usize>>,
@@ -37,7 +37,7 @@ impl<'a, S: Subject> Lent<'a, S> {
         Lent { case, subject }
     }
 
-    fn call(&mut self, operation: Operation, id: &[u8], room: u64) -> Observed {
+    pub fn call(&mut self, operation: Operation, id: &[u8], room: u64) -> Observed {
         self.case.operation = operation;
         self.case.id = id.to_vec();
         self.case.room = room;
@@ -69,10 +69,10 @@ fn check(case: &Case, subject: &impl Subject) -> Result<(), String> {
     let line = flat.reported(flat.numbers[0]).to_vec();
     let mut alone = Lent::new(case, line.clone(), None, subject);
     check_alone(&mut alone, &records, &line)?;
-    check_equal(case, &mut whole, &mut alone, &ids)
+    check_equal(case, &mut whole, &mut alone, &ids).map_err(|what| format!("{what} on Flat"))
 }
 
-fn demand(holds: bool, complaint: impl FnOnce() -> String) -> Result<(), String> {
+pub fn demand(holds: bool, complaint: impl FnOnce() -> String) -> Result<(), String> {
     if holds {
         Ok(())
     } else {
@@ -80,7 +80,8 @@ fn demand(holds: bool, complaint: impl FnOnce() -> String) -> Result<(), String>
     }
 }
 
-fn good_ids(case: &Case) -> impl Iterator<Item = [u8; 2]> + '_ {
+/// Those given with the case.
+pub fn good_ids(case: &Case) -> impl Iterator<Item = [u8; 2]> + '_ {
     case.id.chunks_exact(2).filter(|id| reference::is_id(id)).map(|id| [id[0], id[1]])
 }
 
@@ -195,27 +196,27 @@ fn check_alone(
 
 /// Each question gives the same answer, number and buffer of both databases, room or no room; so do
 /// Flat, and List but for the places.
-fn check_equal<S: Subject>(
+pub fn check_equal<S: Subject>(
     case: &Case,
-    whole: &mut Lent<S>,
-    alone: &mut Lent<S>,
+    one: &mut Lent<S>,
+    other: &mut Lent<S>,
     ids: &[[u8; 2]],
 ) -> Result<(), String> {
     for id in ids {
         for (_, question) in QUESTIONS {
-            let same = whole.call(question, id, case.room) == alone.call(question, id, case.room);
-            demand(same, || format!("{question:?} of {} differs on Flat", text(id)))?;
+            let same = one.call(question, id, case.room) == other.call(question, id, case.room);
+            demand(same, || format!("{question:?} of {} differs", text(id)))?;
         }
     }
-    let same =
-        whole.call(Operation::Flat, b"", case.room) == alone.call(Operation::Flat, b"", case.room);
-    demand(same, || "Flat with this room differs on Flat".into())?;
-    let one = whole.call(Operation::List, b"", case.room);
-    let other = alone.call(Operation::List, b"", case.room);
-    let same = one.code == other.code
-        && one.numbers == other.numbers
-        && listing_without_places(&one) == listing_without_places(&other);
-    demand(same, || "List with this room differs on Flat by more than places".into())
+    let flats =
+        [one.call(Operation::Flat, b"", case.room), other.call(Operation::Flat, b"", case.room)];
+    demand(flats[0] == flats[1], || "Flat with this room differs".into())?;
+    let lists =
+        [one.call(Operation::List, b"", case.room), other.call(Operation::List, b"", case.room)];
+    let same = lists[0].code == lists[1].code
+        && lists[0].numbers == lists[1].numbers
+        && listing_without_places(&lists[0]) == listing_without_places(&lists[1]);
+    demand(same, || "List with this room differs by more than places".into())
 }
 
 /// The whole block, guards too, with the places and files of the reported records set to 0.

@@ -10,6 +10,7 @@ pub mod files;
 pub mod finder;
 pub mod finder_steps;
 pub mod halves;
+pub mod pasting;
 pub mod repair;
 pub mod search;
 
@@ -278,7 +279,7 @@ fn walk(database: Files, name: &[u8]) -> Result<Vec<Description>, Refusal> {
             return Err(CHAIN_TOO_LARGE);
         }
         let mut description = read_description(&files[place.file].lines[place.place].joined)?;
-        description.file = place.file as u8;
+        description.location = place;
         chain_size += description.size();
         if chain_size > MAX_CHAIN_SIZE {
             return Err(CHAIN_TOO_LARGE);
@@ -368,9 +369,10 @@ fn find_line(lines: &[Line], name: &[u8]) -> Option<usize> {
 // Fields
 // ---------------------------------------------------------------------------------------------
 
-/// A description that isn't malformed: the number of its file, its names, and its fields in order.
+/// A description that isn't malformed: the file and the place of its line, its names, and its fields
+/// in order.
 struct Description {
-    file: u8,
+    location: Location,
     names: Vec<u8>,
     fields: Vec<Field>,
 }
@@ -439,7 +441,7 @@ fn read_description(joined: &[u8]) -> Result<Description, Refusal> {
         linked = linked || matches!(meaning, Meaning::Link(_));
         fields.push(Field { written: text.to_vec(), meaning });
     }
-    Ok(Description { file: 0, names: names.to_vec(), fields })
+    Ok(Description { location: Location { file: 0, place: 0 }, names: names.to_vec(), fields })
 }
 
 fn read_field(text: &[u8]) -> Result<Meaning, Refusal> {
@@ -583,7 +585,7 @@ fn join_fields(chain: &[Description]) -> Vec<JoinedField> {
             if let Meaning::Capability(capability) = &field.meaning {
                 joined.push(JoinedField {
                     place: place as u8,
-                    file: description.file,
+                    file: description.location.file as u8,
                     written: field.written.clone(),
                     capability: capability.clone(),
                 });

@@ -129,6 +129,39 @@ fn a_private_file_stands_before_the_common_one() {
     assert_eq!(files.database().flag("p", "am"), Ok(true));
 }
 
+/// The example of the manual's 4.1.
+#[test]
+fn a_link_is_replaced_by_its_parents_fields() {
+    const PARENTS: &[u8] = b"press:co#80:am:li#24:tc=desk:\ndesk:li#48:bl=^G:co@:\n";
+    let before = [b"oven|oven-3:am@:\\\n\t:tc=press: :\n", PARENTS].concat();
+    let after = [b"oven|oven-3:am@:\t:co#80:am:li#24:bl=^G: :\n", PARENTS].concat();
+    let (before, after) = (Database::new(&before), Database::new(&after));
+    assert_eq!(before.flat("press"), Ok(b"press:co#80:am:li#24:bl=^G:\n".to_vec()));
+    for database in [&before, &after] {
+        assert_eq!(database.flag("oven-3", "am"), Ok(false));
+        assert_eq!(database.number("oven-3", "co"), Ok(Some(80)));
+        assert_eq!(database.number("oven-3", "li"), Ok(Some(24)));
+        let flat = b"oven|oven-3:co#80:li#24:bl=^G:\n";
+        assert_eq!(database.flat("oven-3"), Ok(flat.to_vec()));
+    }
+    let records = |co, li, bl| {
+        let co = record(b"co", Kind::Number, co, 80);
+        vec![co, record(b"li", Kind::Number, li, 24), record(b"bl", Kind::String, bl, 1)]
+    };
+    assert_eq!(before.list("oven-3"), Ok(records(1, 1, 2)));
+    assert_eq!(after.list("oven-3"), Ok(records(0, 0, 0)));
+}
+
+/// The manual's 4.1 again: the link finds the second `hall`, asked directly it is the first.
+#[test]
+fn a_parent_of_another_file_must_not_be_pasted() {
+    let before = Files::from_iter(["hall:am:\n", "press:tc=hall:\nhall:co:\n"]);
+    assert_eq!(before.database().flag("press", "co"), Ok(true));
+    assert_eq!(before.database().flat("hall"), Ok(b"hall:am:\n".to_vec()));
+    let after = Files::from_iter(["hall:am:\n", "press:am:\nhall:co:\n"]);
+    assert_eq!(after.database().flag("press", "co"), Ok(false));
+}
+
 #[test]
 fn ends_are_refused_before_all_else() {
     let ends = |ends: &[usize]| Database::with_ends(b"n:am:\n", ends).flag("", "a");

@@ -10,7 +10,7 @@ use std::time::{Duration, Instant};
 
 use termcap_tests::case::{disagreement, Case, Operation};
 use termcap_tests::shrink::shrink;
-use termcap_tests::{examples, generate, mix};
+use termcap_tests::{examples, generate, mix, pasting};
 
 #[path = "../library.rs"]
 mod library;
@@ -20,6 +20,8 @@ const USAGE: &str =
     "[--seed S] [--cases N] [--from I] [--only OPERATION] [--no-examples] [--trace] [--mix]";
 const SHRINKING_TIME: Duration = Duration::from_secs(30);
 const STUCK_AFTER: Duration = Duration::from_secs(60);
+/// With fewer databases to paste in than these, it is not judged in how many it was done.
+const FEW_PASTINGS: u64 = 100;
 
 #[derive(Clone, Copy)]
 struct Options {
@@ -119,6 +121,7 @@ fn run_cases(options: &Options) -> bool {
     thread::spawn(move || watch(&watched));
     let start = Instant::now();
     let every = (options.cases / 10).max(1);
+    let mut pastings = Pastings::default();
     for done in 0..options.cases {
         let index = options.from + done;
         let case = generated(options, index);
@@ -131,13 +134,42 @@ fn run_cases(options: &Options) -> bool {
             report(seed, index, done + 1, &case, &complaint);
             return false;
         }
+        pastings.count(&case);
         if (done + 1) % every == 0 {
             let seconds = start.elapsed().as_secs_f64();
             eprintln!("differential: {} of {} cases, {seconds:.1} s", done + 1, options.cases);
         }
     }
     RUNNING.store(u64::MAX, Ordering::Relaxed);
-    true
+    pastings.are_enough()
+}
+
+/// In how many databases a parent could be pasted: a run in which hardly one was shows nothing.
+#[derive(Default)]
+struct Pastings {
+    tried: u64,
+    made: u64,
+}
+
+impl Pastings {
+    fn count(&mut self, case: &Case) {
+        if case.operation == Operation::Pasting {
+            self.tried += 1;
+            self.made += u64::from(!pasting::replaceable(case).is_empty());
+        }
+    }
+
+    fn are_enough(&self) -> bool {
+        let Pastings { tried, made } = self;
+        if *tried > 0 {
+            println!("differential: a parent was pasted in {made} of {tried} databases");
+        }
+        let enough = *tried < FEW_PASTINGS || 2 * made > *tried;
+        if !enough {
+            println!("differential: that is too few");
+        }
+        enough
+    }
 }
 
 fn generated(options: &Options, index: u64) -> Case {

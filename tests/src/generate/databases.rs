@@ -13,7 +13,7 @@ const NAMES: [&[u8]; 20] = [
 const ODD_NAMES: [&[u8]; 9] =
     [b"", b"a\\", b"\\", b"a\\b", b"\x01", b"\xff", b"\t", b"a\0", &[b'N'; 66]];
 
-const IDS: [&[u8]; 16] = [
+pub const IDS: [&[u8]; 16] = [
     b"am", b"co", b"li", b"cl", b"bs", b"le", b"a#", b"a=", b"==", b"@@", b"#1", b"a.", b"|x",
     b"t#", b"!~", b"tC",
 ];
@@ -283,7 +283,7 @@ impl Line {
     }
 
     /// The size by the paper's rule, as far as the generator needs it.
-    fn size(&self) -> usize {
+    pub fn size(&self) -> usize {
         let fields: usize = self.fields.iter().map(|field| field.len() + 1).sum();
         self.names.join(&b'|').len() + 1 + fields
     }
@@ -339,7 +339,7 @@ fn valid(random: &mut Random) -> Made {
     Made { text: lay_out(random, &lines), asked: Some(pool[order[0]].to_vec()) }
 }
 
-fn shuffle<T>(random: &mut Random, things: &mut [T]) {
+pub fn shuffle<T>(random: &mut Random, things: &mut [T]) {
     for place in (1..things.len()).rev() {
         things.swap(place, random.below(place + 1));
     }
