@@ -7,7 +7,7 @@ use mathlib.Core.List.{List, [], _∷_}
 use native.Mathlib.Omega.{arith}
 use borrow.Author.Tests.{eq-eqb, ne-eqb, le-ltb}
 use lib.Dec.{eqb}
-use lib.ListN.{length, drop, getD, length-append, length-drop}
+use lib.ListN.{length, drop, getD, length-drop}
 use lib.Seq.{sets}
 use Rattle.spec.specs.Choice.{pick, both}
 use Rattle.spec.specs.Refusals.{idBytes, goodName, tooLarge}
@@ -22,10 +22,11 @@ use Rattle.spec.specs.declared.Kind.the-variants.{Flag, Number, String}
 use Rattle.spec.specs.declared.Refusal.{Refusal}
 use Rattle.spec.specs.declared.Refusal.the-variants.{BadId}
 use Rattle.spec.specs.declared.Answer.{Answer}
-use Rattle.spec.specs.declared.Answer.the-variants.{Present, Absent, Refused}
+use Rattle.spec.specs.declared.Answer.the-variants.{Refused}
 use Rattle.spec.proofs.Tests.{both-false}
 use Rattle.spec.proofs.TextSteps.{drop-next}
 use Rattle.spec.proofs.Stores.{stored-append}
+use Rattle.spec.proofs.BatchAnswers.{answer-size}
 use Rattle.spec.proofs.LookupSteps.{hit-size}
 use Rattle.spec.proofs.Records.{value-small}
 use Rattle.spec.proofs.AcceptedChain.{resolved-sound}
@@ -85,11 +86,6 @@ module _ (t : Terminal) (a b k z : ℕ) where
 
 -- ---- all questions
 
-answer-size : (x : Answer) → length (answerBytes x) ≡ 8
-answer-size (Present v) = refl
-answer-size Absent = refl
-answer-size (Refused r) = refl
-
 -- the four bytes of a question
 pub question-from : (l : List ℕ) (i : ℕ) → i < length l / 4
     → drop (4 * i) l ≡ getD l (4 * i) 0 ∷ getD l (4 * i + 1) 0 ∷ getD l (4 * i + 2) 0 ∷ getD l (4 * i + 3) 0 ∷ drop (4 * (i + 1)) l
@@ -121,16 +117,6 @@ answers-none t (a ∷ b ∷ k ∷ z ∷ l) h = absurd (omega arith)
 pub answered-all : (t : Terminal) (questions out : List ℕ) (i : ℕ) → length questions / 4 ≤ i
     → sets out (8 * i) (batchAnswers t (drop (4 * i) questions)) ≡ out
 answered-all t questions out i h = rw (answers-none t (drop (4 * i) questions) (omega (arith, length-drop (4 * i) questions)))
-
-pub answers-length : (t : Terminal) (l : List ℕ) → length (batchAnswers t l) ≡ length l / 4 * 8
-unfolding batchAnswers
-answers-length t [] = omega arith
-answers-length t (a ∷ []) = omega arith
-answers-length t (a ∷ b ∷ []) = omega arith
-answers-length t (a ∷ b ∷ k ∷ []) = omega arith
-answers-length t (a ∷ b ∷ k ∷ z ∷ l) =
-    let x = answerBytes (batchAnswer t a b k z) in
-    omega (arith, length-append x (batchAnswers t l), answer-size (batchAnswer t a b k z), answers-length t l)
 
 -- ---- the terminal
 

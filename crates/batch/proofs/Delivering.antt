@@ -18,7 +18,7 @@ use Rattle.spec.specs.declared.Written.{Written}
 use Rattle.spec.specs.declared.Written.the-variants.{Count, Refused}
 use Rattle.spec.proofs.Buffers.{put-fits, put-full}
 use Rattle.spec.proofs.Stores.{stored-front}
-use Rattle.batch.proofs.Answered.{answers-length}
+use Rattle.spec.proofs.BatchAnswers.{answers-size}
 
 -- what `batch` promises of an answer and the buffer
 abbrev Delivered : Outcome Written → Written → List ℕ → Type 0
@@ -61,11 +61,11 @@ module _ (db : Files) (name questions out : List ℕ) where
         pub room-missing : length out / 8 < length questions / 4 → Delivered outcome (Refused NoRoom) out
         room-missing h =
             delivered outcome (Refused NoRoom) out
-            (outcome-put ∙ put-full answers (length questions / 4) out (omega (arith, answers-length (resolve (contents db) name) questions)))
+            (outcome-put ∙ put-full answers (length questions / 4) out (omega (arith, answers-size (resolve (contents db) name) questions)))
 
         pub answers-put : (after : List ℕ) → length questions / 4 ≤ length out / 8 → after ≡ sets out 0 answers
             → Delivered outcome (Count (length questions / 4)) after
         answers-put after h s =
-            let room : length answers ≤ length out = omega (arith, answers-length (resolve (contents db) name) questions) in
+            let room : length answers ≤ length out = omega (arith, answers-size (resolve (contents db) name) questions) in
             delivered outcome (Count (length questions / 4)) after
             (outcome-put ∙ put-fits answers (length questions / 4) out room ∙ rw (s, stored-front out answers room))

@@ -8,6 +8,7 @@ use Rattle.spec.specs.declared.Refusal.the-variants.{NoRoom, UnknownSequence, T
 use Rattle.c_results.specs.Results.{resultOf}
 
 pub refused-result : (r : Refusal) → refusalNumber r ≡ resultOf (refusedReport r)
+unfolding resultOf
 refused-result BadName = refl
 refused-result BadId = refl
 refused-result DatabaseTooLarge = refl

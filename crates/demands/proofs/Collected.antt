@@ -1,22 +1,22 @@
 -- What a run over the joined text collects: the first line that is not ignored and has the asked name.
 -- Assumes nothing.
 use Prim.Native.Nat.{ℕ, _+_, _≤_, _<_}
-use mathlib.Core.Path.{_≡_, refl, _∙_, ap, sym}
+use mathlib.Core.Path.{_≡_, refl, _∙_, sym}
 use mathlib.Core.Logic.{_⊎_, inl, inr}
 use mathlib.Core.Bool.{Bool, true, false, not}
-use mathlib.Core.List.{List, [], _∷_, _++_}
+use mathlib.Core.List.{List, [], _∷_}
 use native.Mathlib.Numerals.{add-one}
 use native.Mathlib.Omega.{arith}
-use borrow.Author.Tests.{eq-eqb, ne-eqb, eqb-true, eqb-false, ltb-true, ltb-false, le-leb, lt-leb, leb-true, leb-false, lt-ltb, le-ltb}
+use borrow.Author.Tests.{eq-eqb, ne-eqb, eqb-true, eqb-false, ltb-true, ltb-false, le-leb, lt-leb, leb-true, leb-false}
 use lib.Dec.{eqb, ltb, leb}
-use lib.ListN.{length, drop, getD, set, length-set, drop-of-length-le}
+use lib.ListN.{length, getD, set, length-set, drop-of-length-le}
 use lib.Seq.{drop-cons}
 use Rattle.spec.specs.Choice.{pick, both, either}
 use Rattle.spec.specs.Lists.{upto, laterPieces, same, among}
 use Rattle.spec.specs.Lines.{Text, end, byte, lineText, blank, comment, isIgnored, firstName, laterNames, hasName}
 use Rattle.spec.specs.Finder.{Collecting, collecting, lineStart, collect, matchedAfter, namesByte, lineByte, lineEnds, joinedByte}
 use Rattle.spec.proofs.Tests.{clash, both-false}
-use Rattle.spec.proofs.TextSteps.{rest, same-nil, line-end, line-on, blank-on, blank-not, name-end, name-on, names-end, names-cut, names-on}
+use Rattle.spec.proofs.TextSteps.{rest, same-nil, line-end, line-on, blank-not, name-end, name-on, names-end, names-cut, names-on}
 use Rattle.demands.proofs.Cutting.{run}
 
 -- ---- a line that has the name, and one that cannot have it
@@ -48,7 +48,8 @@ module _ (name : List ℕ) where
   found-stays c t end = refl
   found-stays c t (byte b n u) = go (eqb b 10) (found-stays c t u)
     where
-      go : (x : Bool) → run name (collecting 4 0 c t) u ≡ collecting 4 0 c t → run name (pick x (collecting 4 0 c t) (collecting 4 0 c t)) u ≡ collecting 4 0 c t
+      go : (x : Bool) → run name (collecting 4 0 c t) u ≡ collecting 4 0 c t
+          → run name (pick x (collecting 4 0 c t) (collecting 4 0 c t)) u ≡ collecting 4 0 c t
       go true e = e
       go false e = e
 
@@ -57,7 +58,8 @@ module _ (name : List ℕ) where
   passing c t end = refl
   passing c t (byte b n u) = go (eqb b 10) (passing c t u)
     where
-      go : (x : Bool) → run name (collecting 3 0 c t) u ≡ afterLine name t u → run name (pick x (lineStart t) (collecting 3 0 c t)) u ≡ pick x (run name (lineStart t) u) (afterLine name t u)
+      go : (x : Bool) → run name (collecting 3 0 c t) u ≡ afterLine name t u
+          → run name (pick x (lineStart t) (collecting 3 0 c t)) u ≡ pick x (run name (lineStart t) u) (afterLine name t u)
       go true e = refl
       go false e = e
 
@@ -108,7 +110,8 @@ module _ (name : List ℕ) (short : length name ≤ 64) where
       over = lt-leb 65 (length name) (omega arith)
 
       go : (x : Bool) → ltb k (length name) ≡ x → (y : Bool) → eqb (getD name k 256) b ≡ y
-          → both (leb (pick y (k + 1) 65) (length name)) (same (rest name (pick y (k + 1) 65)) (firstName l)) ≡ both (leb k (length name)) (same (rest name k) (b ∷ firstName l))
+          → both (leb (pick y (k + 1) 65) (length name)) (same (rest name (pick y (k + 1) 65)) (firstName l)) ≡ both (leb k (length name)) (same
+          (rest name k) (b ∷ firstName l))
       go true h true q =
           let i : k < length name = ltb-true k (length name) h in
           let j : k + 1 ≤ length name = omega arith in
@@ -173,7 +176,8 @@ module _ (name : List ℕ) (short : length name ≤ 64) where
   unfolding wanted blank
   wanted-blank k = refl
 
-  wanted-bar : (y : Bool) (k : ℕ) (l m : List ℕ) → blank m ≡ false → firstName m ≡ [] → laterNames m ≡ firstName l ∷ laterNames l → eqb k (length name) ≡ false → wanted true 0 l ≡ wanted y k m
+  wanted-bar : (y : Bool) (k : ℕ) (l m : List ℕ) → blank m ≡ false → firstName m ≡ [] → laterNames m ≡ firstName l ∷ laterNames l
+      → eqb k (length name) ≡ false → wanted true 0 l ≡ wanted y k m
   unfolding wanted
   wanted-bar y k l m h e f q = rw (h, either-true y, completes-end k m e, q, f) (unfold completes among rest in rw (le-leb 0 (length name) (omega arith)))
 
@@ -181,7 +185,8 @@ module _ (name : List ℕ) (short : length name ≤ 64) where
   unfolding wanted
   wanted-bar-asked y k m h e q = rw (h, either-true y, completes-end k m e, q)
 
-  wanted-byte : (y : Bool) (k b : ℕ) (l m : List ℕ) → blank m ≡ both (either (eqb b 32) (eqb b 9)) (blank l) → firstName m ≡ b ∷ firstName l → laterNames m ≡ laterNames l
+  wanted-byte : (y : Bool) (k b : ℕ) (l m : List ℕ) → blank m ≡ both (either (eqb b 32) (eqb b 9)) (blank l) → firstName m ≡ b ∷ firstName l
+      → laterNames m ≡ laterNames l
       → wanted (either y (not (either (eqb b 32) (eqb b 9)))) (matchedAfter name k b) l ≡ wanted y k m
   unfolding wanted
   wanted-byte y k b l m h e f = rw (h, f, completes-byte k b l m e, go y (either (eqb b 32) (eqb b 9)) (blank l))
@@ -193,7 +198,8 @@ module _ (name : List ℕ) (short : length name ≤ 64) where
 
   -- ---- the bytes of the names
 
-  names-line : (y : Bool) (k c : ℕ) (t : List ℕ) (b : ℕ) → (b ≡ 10 → ⊥) → joinedByte name (collecting (pick y 1 0) k c t) b ≡ namesByte name (collecting (pick y 1 0) k c t) b
+  names-line : (y : Bool) (k c : ℕ) (t : List ℕ) (b : ℕ) → (b ≡ 10 → ⊥)
+      → joinedByte name (collecting (pick y 1 0) k c t) b ≡ namesByte name (collecting (pick y 1 0) k c t) b
   unfolding joinedByte lineByte
   names-line true k c t b h = rw (ne-eqb b 10 h)
   names-line false k c t b h = rw (ne-eqb b 10 h)
@@ -214,7 +220,8 @@ module _ (name : List ℕ) (short : length name ≤ 64) where
     unfolding namesByte
     at-bar e = rw (no-comment c b free, ne-eqb b 58 (omega arith), eq-eqb b 124 e)
 
-    at-other : (b ≡ 58 → ⊥) → (b ≡ 124 → ⊥) → namesByte name (collecting s k c t) b ≡ collect (collecting (pick (either (eqb b 32) (eqb b 9)) s 1) (matchedAfter name k b) c t) b
+    at-other : (b ≡ 58 → ⊥) → (b ≡ 124 → ⊥)
+        → namesByte name (collecting s k c t) b ≡ collect (collecting (pick (either (eqb b 32) (eqb b 9)) s 1) (matchedAfter name k b) c t) b
     unfolding namesByte
     at-other h g = rw (no-comment c b free, ne-eqb b 58 h, ne-eqb b 124 g)
 
@@ -225,7 +232,8 @@ module _ (name : List ℕ) (short : length name ≤ 64) where
   stage-is false false = refl
 
   -- a line's end, in its names
-  names-stop : (y : Bool) (k c : ℕ) (t : List ℕ) → lineEnds name (collecting (pick y 1 0) k c t) ≡ pick (both y (eqb k (length name))) (collecting 4 0 c t) (lineStart t)
+  names-stop : (y : Bool) (k c : ℕ) (t : List ℕ)
+      → lineEnds name (collecting (pick y 1 0) k c t) ≡ pick (both y (eqb k (length name))) (collecting 4 0 c t) (lineStart t)
   unfolding lineEnds
   names-stop true k c t = refl
   names-stop false k c t = refl
@@ -267,7 +275,12 @@ module _ (name : List ℕ) (short : length name ≤ 64) where
     colon free i =
         let h : b ≡ 10 → ⊥ = λ e. omega arith in
         let shown : either y (not (blank (lineText (byte b n u)))) ≡ true = rw (blank-not b n u h (λ e. off e)) (either-true y) in
-        rw (wanted-end y k (lineText (byte b n u)) shown (name-end b n u (inr (inl i))) (names-end b n u (inr i)), names-line y k c t b h, at-colon (pick y 1 0) k c t b free i) (go h (eqb k (length name)))
+        rw (
+          wanted-end y k (lineText (byte b n u)) shown (name-end b n u (inr (inl i))) (names-end b n u (inr i)),
+          names-line y k c t b h,
+          at-colon
+              (pick y 1 0) k c t b free i,
+        ) (go h (eqb k (length name)))
       where
         off : (b ≡ 9) ⊎ (b ≡ 32) → ⊥
         off (inl e) = omega arith
@@ -287,7 +300,8 @@ module _ (name : List ℕ) (short : length name ≤ 64) where
         off (inl e) = omega arith
         off (inr e) = omega arith
 
-        go : (b ≡ 10 → ⊥) → (x : Bool) → eqb k (length name) ≡ x → Reached (wanted y k (lineText (byte b n u))) c t (byte b n u) (run name (collect (collecting (pick x 2 1) 0 c t) b) u)
+        go : (b ≡ 10 → ⊥) → (x : Bool) → eqb k (length name) ≡ x
+            → Reached (wanted y k (lineText (byte b n u))) c t (byte b n u) (run name (collect (collecting (pick x 2 1) 0 c t) b) u)
         go h true e = rw (wanted-bar-asked y k (lineText (byte b n u)) (blank-not b n u h off) (name-end b n u (inr (inr i))) e) (complete h)
         go h false e =
             rw (← wanted-bar y k (lineText u) (lineText (byte b n u)) (blank-not b n u h off) (name-end b n u (inr (inr i))) (names-cut b n u i) e)
@@ -304,7 +318,8 @@ module _ (name : List ℕ) (short : length name ≤ 64) where
           stage-is y (either (eqb b 32) (eqb b 9)),
           ← wanted-byte y k b (lineText u) (lineText (byte b n u)) (blank-byte b n u h) (name-on b n u stops) (names-on b n u ends g),
         )
-        (onward (wanted (either y (not (either (eqb b 32) (eqb b 9)))) (matchedAfter name k b) (lineText u)) (pick (either y (not (either (eqb b 32) (eqb b 9)))) 1 0) (matchedAfter name k b) c t b n u h ih)
+        (onward (wanted (either y (not (either (eqb b 32) (eqb b 9)))) (matchedAfter name k b) (lineText u)) (pick (either y (not (either (eqb b 32)
+        (eqb b 9)))) 1 0) (matchedAfter name k b) c t b n u h ih)
       where
         stops : (b ≡ 10) ⊎ ((b ≡ 58) ⊎ (b ≡ 124)) → ⊥
         stops (inl e) = h e
@@ -329,7 +344,8 @@ module _ (name : List ℕ) (short : length name ≤ 64) where
       free e i = sym (first-byte b n u (eqb-false b 10 e)) ∙ q i
 
       by : (p : Bool) → eqb b 10 ≡ p → (r : Bool) → eqb b 58 ≡ r → (v : Bool) → eqb b 124 ≡ v
-          → ((y′ : Bool) (k′ c′ : ℕ) (t′ : List ℕ) → (c′ ≡ 0 → comment (lineText u) ≡ false) → Reached (wanted y′ k′ (lineText u)) c′ t′ u (run name (collecting (pick y′ 1 0) k′ c′ t′) u))
+          → ((y′ : Bool) (k′ c′ : ℕ) (t′ : List ℕ) → (c′ ≡ 0 → comment (lineText u) ≡ false)
+          → Reached (wanted y′ k′ (lineText u)) c′ t′ u (run name (collecting (pick y′ 1 0) k′ c′ t′) u))
           → Reached (wanted y k (lineText (byte b n u))) c t (byte b n u) (run name (joinedByte name (collecting (pick y 1 0) k c t) b) u)
       by true e r f v g ih = newline y k c t b n u (eqb-true b 10 e)
       by false e true f v g ih = colon y k c t b n u (free e) (eqb-true b 58 f)
@@ -352,7 +368,8 @@ module _ (name : List ℕ) (short : length name ≤ 64) where
       go true h = clash (sym e ∙ rw (line-end b n u (eqb-true b 10 h)) (unfold comment in refl))
       go false h =
           let m : eqb b 35 ≡ true = sym (first-byte b n u (eqb-false b 10 h)) ∙ e in
-          rw (run-byte (lineStart t) b n u, names-line false 0 0 t b (eqb-false b 10 h), at-comment 0 0 t b m, after-on name t b n u (eqb-false b 10 h)) (passing name 0 t u)
+          rw (run-byte (lineStart t) b n u, names-line false 0 0 t b (eqb-false b 10 h), at-comment 0 0 t b m, after-on name t b n u (eqb-false b 10 h))
+          (passing name 0 t u)
 
   wanted-line : (l : List ℕ) → wanted false 0 l ≡ both (not (blank l)) (hasName name l)
   unfolding wanted completes rest among

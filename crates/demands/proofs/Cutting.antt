@@ -77,7 +77,8 @@ run name x (byte b n t) = run name (joinedByte name x b) t
 module _ (name : List ℕ) where
   -- what is left of the file, with a backslash held or not
   abbrev Runs : List ℕ → Type 0
-  Runs s = (at : ℕ) (x : Collecting) → (finished name (fed name (feeding 0 x) s) ≡ run name x (join at s)) × (finished name (fed name (feeding 1 x) s) ≡ run name x (join at (92 ∷ s)))
+  Runs s = (at : ℕ) (x : Collecting)
+      → (finished name (fed name (feeding 0 x) s) ≡ run name x (join at s)) × (finished name (fed name (feeding 1 x) s) ≡ run name x (join at (92 ∷ s)))
 
   unheld-runs : (s : List ℕ) → Runs s → (at b : ℕ) (x : Collecting) → finished name (fed name (unheldByte name x b) s) ≡ run name x (join at (b ∷ s))
   unfolding unheldByte

@@ -1,8 +1,8 @@
 -- Demand 1 holds of the operations with output. Assumes nothing.
 use Prim.Native.Nat.{ℕ, _*_, _/_, _%_, _≤_}
-use mathlib.Core.Path.{_≡_, refl, sym, ap, _∙_}
+use mathlib.Core.Path.{_≡_, refl, _∙_}
 use mathlib.Core.Bool.{Bool, true, false}
-use mathlib.Core.List.{List, [], _∷_, _++_}
+use mathlib.Core.List.{List, _++_}
 use native.Mathlib.Omega.{arith}
 use borrow.Author.Tests.{leb-true}
 use lib.Dec.{eqb, ltb, leb}
@@ -36,10 +36,11 @@ use Rattle.spec.specs.Sending.{
   handed,
   padOutcome,
 }
-use Rattle.spec.specs.Batch.{batchAnswer, answerBytes, batchAnswers, batchOutcome}
+use Rattle.spec.specs.Batch.{batchAnswers, batchOutcome}
 use Rattle.spec.specs.Finder.{finderOutcome}
 use Rattle.spec.specs.Repair.{mended, flattened, notRepaired, putMended, tooManyLines, repairOutcome}
 use Rattle.spec.proofs.Tests.{pick-all, pick-told, both-true}
+use Rattle.spec.proofs.BatchAnswers.{answers-size}
 use Rattle.spec.proofs.RecordRoom.{mended-sixteen}
 use Rattle.spec.proofs.Winning.{winning-wins}
 use Rattle.spec.proofs.Records.{records-length}
@@ -56,12 +57,9 @@ use Rattle.spec.specs.declared.Refusal.the-variants.{
   InvalidState,
 }
 use Rattle.spec.specs.declared.finder.Finder.{Finder}
-use Rattle.spec.specs.declared.Answer.{Answer}
-use Rattle.spec.specs.declared.Answer.the-variants.{Present, Absent, Refused as NotAnswered}
+use Rattle.spec.specs.declared.Answer.the-variants.{Absent, Refused as NotAnswered}
 use Rattle.spec.specs.declared.Written.{Written}
 use Rattle.spec.specs.declared.Written.the-variants.{Count, Refused}
-use Rattle.spec.specs.declared.Fill.{Fill}
-use Rattle.spec.specs.declared.Fill.the-variants.{Refused as NotFilled}
 use Rattle.demands.specs.Demand1.{OnlyFirst, Writes, Answers, Fills, Repairs, Demand1}
 
 -- ---- a buffer that is kept
@@ -180,21 +178,6 @@ flat-writes (refused r) buffer = kept 1 r buffer
 flat-writes (terminal names fs) buffer = written 1 (flatText names fs) (length (flatText names fs)) buffer (omega arith)
 
 -- ---- a batch
-
-answers-size : (t : Terminal) (l : List ℕ) → length (batchAnswers t l) ≡ 8 * (length l / 4)
-unfolding batchAnswers
-answers-size t [] = omega arith
-answers-size t (a ∷ []) = omega arith
-answers-size t (a ∷ b ∷ []) = omega arith
-answers-size t (a ∷ b ∷ k ∷ []) = omega arith
-answers-size t (a ∷ b ∷ k ∷ z ∷ l) =
-    let x = batchAnswer t a b k z in
-    omega (arith, length-append (answerBytes x) (batchAnswers t l), eight x, answers-size t l)
-  where
-    eight : (x : Answer) → length (answerBytes x) ≡ 8
-    eight (Present v) = refl
-    eight Absent = refl
-    eight (NotAnswered r) = refl
 
 batch-writes : (db : Files) (name questions buffer : List ℕ) → Writes 8 buffer (batchOutcome db name questions buffer)
 unfolding batchOutcome

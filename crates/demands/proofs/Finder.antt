@@ -101,7 +101,8 @@ module _ (db : List ℕ) where
   found-text name [] h = refl
   found-text name (l ∷ ls) h = go (both (not (isIgnored (l .text))) (hasName name (l .text))) (found-text name ls (h .1))
     where
-      go : (x : Bool) → firstText name ls ≡ textFound (find name ls) → pick x (hit (l .text)) (firstText name ls) ≡ textFound (pick x (At (l .start)) (find name ls))
+      go : (x : Bool) → firstText name ls ≡ textFound (find name ls)
+          → pick x (hit (l .text)) (firstText name ls) ≡ textFound (pick x (At (l .start)) (find name ls))
       go true e = ap hit (h .0)
       go false e = e
 
@@ -129,12 +130,14 @@ gathered-line l t h =
 gathered-long : (l : List ℕ) (c : ℕ) (t : List ℕ) → c ≤ 16385 → 16385 ≤ c + length l → (gathered c t l .line .count ≡ 16385) × (gathered c t l .line .stage ≡ 4)
 unfolding gathered
 gathered-long [] c t h k = (omega (arith, h, k), refl)
-gathered-long (b ∷ l) c t h k = go (ltb c 16385) refl (λ i. gathered-long l (c + 1) (set t c b) (omega (arith, i)) (omega (arith, k))) (λ i. gathered-long l c t h (omega (arith, i)))
+gathered-long (b ∷ l) c t h k = go (ltb c 16385) refl (λ i. gathered-long l (c + 1) (set t c b) (omega (arith, i)) (omega (arith, k)))
+    (λ i. gathered-long l c t h (omega (arith, i)))
   where
     go : (x : Bool) → ltb c 16385 ≡ x
         → (c < 16385 → (gathered (c + 1) (set t c b) l .line .count ≡ 16385) × (gathered (c + 1) (set t c b) l .line .stage ≡ 4))
         → (16385 ≤ c → (gathered c t l .line .count ≡ 16385) × (gathered c t l .line .stage ≡ 4))
-        → (pick x (gathered (c + 1) (set t c b) l) (gathered c t l) .line .count ≡ 16385) × (pick x (gathered (c + 1) (set t c b) l) (gathered c t l) .line .stage ≡ 4)
+        → (pick x (gathered (c + 1) (set t c b) l) (gathered c t l) .line .count ≡ 16385) × (pick x (gathered (c + 1) (set t c b) l)
+        (gathered c t l) .line .stage ≡ 4)
     go true e more full = more (ltb-true c 16385 e)
     go false e more full = full (ltb-false c 16385 e)
 
@@ -165,7 +168,8 @@ ends-outcome db m (At p) z buffer (t, n, e) = go (ltb 16384 (length l)) refl
         ap (λ (s : List ℕ). put s (length l) buffer) (stored-taken t l i (length l) refl)
     copied false h = refl
 
-    go : (x : Bool) → ltb 16384 (length l) ≡ x → outcomeAt z buffer ≡ pick x (keeping (Refused ChainTooLarge) buffer) (pick (leb (length l) m) (put l (length l) buffer) no)
+    go : (x : Bool) → ltb 16384 (length l) ≡ x
+        → outcomeAt z buffer ≡ pick x (keeping (Refused ChainTooLarge) buffer) (pick (leb (length l) m) (put l (length l) buffer) no)
     go true h =
         let i : 16384 < length l = ltb-true 16384 (length l) h in
         let g = gathered-long l 0 t (omega arith) (omega (arith, i)) in

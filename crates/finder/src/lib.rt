@@ -381,7 +381,8 @@ fn is_comment_next(held: u8, block: &[u8], at: usize) -> bool
 fn pass_line(p: Place, block: &[u8], from: usize) -> Step
     requires { ⌜ (p .line .stage ≡ 3) × (from < length (now block)) ⌝ }
     ensures { λ r. ⌜ (from ≤ r .next) × (r .next ≤ length (now (block .entry)))
-        × ((name text : List ℕ) → fed name (placed p text) (drop from (now (block .entry))) ≡ fed name (placed (r .place) text) (drop (r .next) (now (block .entry)))) ⌝ }
+        × ((name text : List ℕ) → fed name (placed p text) (drop from (now (block .entry)))
+        ≡ fed name (placed (r .place) text) (drop (r .next) (now (block .entry)))) ⌝ }
 {
     let line = p.line;
     let to = next_newline(block, from);

@@ -201,7 +201,8 @@ fn write_winning(
     to: usize,
 ) -> usize
     requires { ⌜ (length (now db) ≤ 1048576) × (c .count ≤ 32) × (to ≤ mostForLine) ⌝ }
-    ensures { λ r. ⌜ WroteWinning form (joinedFields (contents (files (now (db .entry)) (now (ends .entry)))) 0 (linesOf c)) (now (out .entry)) to (now (out .exit)) r ⌝ }
+    ensures { λ r. ⌜ WroteWinning form (joinedFields (contents (files (now (db .entry)) (now (ends .entry)))) 0 (linesOf c)) (now (out .entry)) to
+        (now (out .exit)) r ⌝ }
 {
     let mut seen = [0u8; NAMES];
     let lines = c.lines;
@@ -237,7 +238,8 @@ fn records_fit(db: &[u8], ends: &[usize], c: Chain, room: usize) -> bool
 
 fn write_list(db: &[u8], ends: &[usize], c: Chain, out: &mut [u8]) -> Written
     requires { ⌜ (length (now db) ≤ 1048576) × (c .count ≤ 32) × BoundedChain (contents (files (now db) (now ends))) c ⌝ }
-    ensures { λ r. ⌜ Put (recordsOf (contents (files (now (db .entry)) (now (ends .entry)))) c) (length (winning (joinedFields (contents (files (now (db .entry)) (now (ends .entry)))) 0 (linesOf c))))
+    ensures { λ r. ⌜ Put (recordsOf (contents (files (now (db .entry)) (now (ends .entry)))) c)
+        (length (winning (joinedFields (contents (files (now (db .entry)) (now (ends .entry)))) 0 (linesOf c))))
         (now (out .entry)) r (now (out .exit)) ⌝ }
 {
     if !records_fit(db, ends, c, out.len()) {
@@ -263,7 +265,8 @@ pub fn list(db: &[u8], ends: &[usize], name: &[u8], out: &mut [u8]) -> Written
 // "The first line's names, a colon, then each winning field as written (joined) with a colon, then a newline."
 fn put_flat(db: &[u8], ends: &[usize], c: Chain, out: &mut [u8]) -> usize
     requires { ⌜ (length (now db) ≤ 1048576) × (0 < c .count) × (c .count ≤ 32) × BoundedChain (contents (files (now db) (now ends))) c ⌝ }
-    ensures { λ r. ⌜ (r ≡ length (flatOf (contents (files (now (db .entry)) (now (ends .entry)))) c)) × (now (out .exit) ≡ sets (now (out .entry)) 0 (flatOf (contents (files (now (db .entry)) (now (ends .entry)))) c)) ⌝ }
+    ensures { λ r. ⌜ (r ≡ length (flatOf (contents (files (now (db .entry)) (now (ends .entry)))) c))
+        × (now (out .exit) ≡ sets (now (out .entry)) 0 (flatOf (contents (files (now (db .entry)) (now (ends .entry)))) c)) ⌝ }
 {
     let lines = c.lines;
     let p = lines[0];
@@ -289,7 +292,9 @@ fn flat_fits(db: &[u8], ends: &[usize], c: Chain, room: usize) -> bool
 
 fn write_flat(db: &[u8], ends: &[usize], c: Chain, out: &mut [u8]) -> Written
     requires { ⌜ (length (now db) ≤ 1048576) × (0 < c .count) × (c .count ≤ 32) × BoundedChain (contents (files (now db) (now ends))) c ⌝ }
-    ensures { λ r. ⌜ Put (flatOf (contents (files (now (db .entry)) (now (ends .entry)))) c) (length (flatOf (contents (files (now (db .entry)) (now (ends .entry)))) c)) (now (out .entry)) r (now (out .exit)) ⌝ }
+    ensures { λ r. ⌜ Put (flatOf (contents (files (now (db .entry)) (now (ends .entry)))) c)
+        (length (flatOf (contents (files (now (db .entry)) (now (ends .entry)))) c))
+        (now (out .entry)) r (now (out .exit)) ⌝ }
 {
     if !flat_fits(db, ends, c, out.len()) {
         return Written::Refused(Refusal::NoRoom);

@@ -24,6 +24,7 @@ pub mod Winning
 pub mod RemovedTexts
 pub mod LookupSteps
 pub mod Buffers
+pub mod BatchAnswers
 pub mod Records
 pub mod FlatAlone
 pub mod FlatLine

@@ -1,8 +1,28 @@
 // The library in one place: the operations of documents 01 and 02 with their answers, the opened reader, and the C functions, which give each
-// result as a number. A slice passes to C as a pointer and a length; the reader has no C functions.
+// result as a number. A slice passes to C as a pointer and a length; the reader has no C functions. Each operation over several files comes
+// with the same for a single one that fills the buffer.
+//
+// A must-fail edit leaves out all sections but its own, so that those are not proved again (decision 112).
 mod finder_calls;
 
+ghost use mathlib.Core.Path.{_≡_};
+ghost use Rattle.spec.specs.Files.{files, alone};
+ghost use Rattle.spec.specs.Questions.{showReport, flagReport, numberReport, stringOutcome, stringReport};
+ghost use Rattle.spec.specs.Search.{searchReport};
+ghost use Rattle.spec.specs.Listing.{listOutcome, listReport, flatOutcome, flatReport};
+ghost use Rattle.spec.specs.Batch.{batchOutcome, batchReport};
+ghost use Rattle.spec.specs.Repair.{repairOutcome, repairReport};
+ghost use Rattle.spec.specs.Sending.{sendOutcome, sendReport, sendAtOutcome, sendAtReport, fillOutcome, fillReport, padOutcome, padReport};
+ghost use Rattle.c_results.specs.Results.{resultOf, storedValue, storedLength, storedSecond, storedThird, hasStar};
+
+// ---- for programs in Rattle ----
+
 pub use batch::batch;
+pub use finder::Turn;
+pub use finder::answer as finder_answer;
+pub use finder::end as finder_end;
+pub use finder::feed as finder_feed;
+pub use finder::open as finder_open;
 pub use finder_calls::termcap_finder_answer;
 pub use finder_calls::termcap_finder_end;
 pub use finder_calls::termcap_finder_feed;
@@ -34,46 +54,9 @@ pub use spec::Repaired;
 pub use spec::Searched;
 pub use spec::Shown;
 pub use spec::Written;
-ghost use mathlib.Core.Path.{_≡_};
-ghost use Rattle.spec.specs.Files.{files, alone};
-ghost use Rattle.spec.specs.Answers.{answerReport, writtenReport};
-ghost use Rattle.spec.specs.Questions.{showReport, flagReport, numberReport, stringOutcome, stringReport};
-ghost use Rattle.spec.specs.Search.{searchReport};
-ghost use Rattle.spec.specs.Listing.{listOutcome, listReport, flatOutcome, flatReport};
-ghost use Rattle.spec.specs.Batch.{batchOutcome, batchReport};
-ghost use Rattle.spec.specs.Repair.{repairOutcome, repairReport};
-ghost use Rattle.spec.specs.Choice.{pick};
-ghost use Rattle.spec.specs.Sending.{sendOutcome, sendReport, sendAtOutcome, sendAtReport, fillOutcome, fillReport, padOutcome, padReport};
-ghost use Rattle.termcap.specs.Results.{resultOf, storedValue, storedLength, storedSecond, storedThird, hasStar};
+pub use spec::finder::Finder;
 
-// The result of a question; a value is stored if it is present.
-fn give_answer(a: Answer, value: &mut u64) -> u32
-    ensures { λ r. ⌜ (r ≡ resultOf (answerReport a)) × (now (value .exit) ≡ storedValue (answerReport a) (now (value .entry))) ⌝ }
-{
-    match a {
-        Answer::Present(v) => {
-            *value = v as u64;
-            0
-        }
-        Answer::Absent => 255,
-        Answer::Refused(r) => r.number() as u32,
-    }
-}
-
-// The result of an operation with output; the count is stored if it is accepted.
-fn give_count(w: Written, count: &mut u64) -> u32
-    ensures { λ r. ⌜ (r ≡ resultOf (writtenReport w)) × (now (count .exit) ≡ storedValue (writtenReport w) (now (count .entry))) ⌝ }
-{
-    match w {
-        Written::Count(n) => {
-            *count = n as u64;
-            0
-        }
-        Written::Refused(r) => r.number() as u32,
-    }
-}
-
-// Each operation over several files comes with the same for a single one that fills the buffer.
+// ---- Show ----
 
 // "The part of the caller's database that holds the first description with that name": its place in the buffer.
 #[no_mangle]
@@ -88,14 +71,7 @@ pub extern "C" fn termcap_show_files(
         × (now (start .exit) ≡ storedValue (showReport (files (now (db .entry)) (now (ends .entry))) (now (name .entry))) (now (start .entry)))
         × (now (length .exit) ≡ storedLength (showReport (files (now (db .entry)) (now (ends .entry))) (now (name .entry))) (now (length .entry))) ⌝ }
 {
-    match show_part(db, ends, name) {
-        Shown::Part(from, to) => {
-            *start = from as u64;
-            *length = (to - from) as u64;
-            0
-        }
-        Shown::Refused(r) => r.number() as u32,
-    }
+    c_operations::show(db, ends, name, start, length)
 }
 
 #[no_mangle]
@@ -107,6 +83,8 @@ pub extern "C" fn termcap_show(db: &[u8], name: &[u8], start: &mut u64, length: 
     let ends = [db.len()];
     termcap_show_files(db, &ends, name, start, length)
 }
+
+// ---- the search that counts ----
 
 // "Whether an asked name is found and how many names had bytes compared": a name that is not found is no refusal, and 0 is stored.
 #[no_mangle]
@@ -121,19 +99,7 @@ pub extern "C" fn termcap_search_files(
         × (now (found .exit) ≡ storedValue (searchReport (files (now (db .entry)) (now (ends .entry))) (now (name .entry))) (now (found .entry)))
         × (now (compared .exit) ≡ storedSecond (searchReport (files (now (db .entry)) (now (ends .entry))) (now (name .entry))) (now (compared .entry))) ⌝ }
 {
-    match search(db, ends, name) {
-        Searched::Found(n) => {
-            *found = 1;
-            *compared = n as u64;
-            0
-        }
-        Searched::Missing(n) => {
-            *found = 0;
-            *compared = n as u64;
-            0
-        }
-        Searched::Refused(r) => r.number() as u32,
-    }
+    c_operations::search(db, ends, name, found, compared)
 }
 
 #[no_mangle]
@@ -146,6 +112,8 @@ pub extern "C" fn termcap_search(db: &[u8], name: &[u8], found: &mut u64, compar
     termcap_search_files(db, &ends, name, found, compared)
 }
 
+// ---- Flag ----
+
 #[no_mangle]
 pub extern "C" fn termcap_flag_files(
     db: &[u8],
@@ -155,9 +123,10 @@ pub extern "C" fn termcap_flag_files(
     value: &mut u64,
 ) -> u32
     ensures { λ r. ⌜ (r ≡ resultOf (flagReport (files (now (db .entry)) (now (ends .entry))) (now (name .entry)) (now (id .entry))))
-        × (now (value .exit) ≡ storedValue (flagReport (files (now (db .entry)) (now (ends .entry))) (now (name .entry)) (now (id .entry))) (now (value .entry))) ⌝ }
+        × (now (value .exit)
+        ≡ storedValue (flagReport (files (now (db .entry)) (now (ends .entry))) (now (name .entry)) (now (id .entry))) (now (value .entry))) ⌝ }
 {
-    give_answer(flag(db, ends, name, id), value)
+    c_operations::flag(db, ends, name, id, value)
 }
 
 #[no_mangle]
@@ -169,6 +138,8 @@ pub extern "C" fn termcap_flag(db: &[u8], name: &[u8], id: &[u8], value: &mut u6
     termcap_flag_files(db, &ends, name, id, value)
 }
 
+// ---- Number ----
+
 #[no_mangle]
 pub extern "C" fn termcap_number_files(
     db: &[u8],
@@ -178,9 +149,10 @@ pub extern "C" fn termcap_number_files(
     value: &mut u64,
 ) -> u32
     ensures { λ r. ⌜ (r ≡ resultOf (numberReport (files (now (db .entry)) (now (ends .entry))) (now (name .entry)) (now (id .entry))))
-        × (now (value .exit) ≡ storedValue (numberReport (files (now (db .entry)) (now (ends .entry))) (now (name .entry)) (now (id .entry))) (now (value .entry))) ⌝ }
+        × (now (value .exit)
+        ≡ storedValue (numberReport (files (now (db .entry)) (now (ends .entry))) (now (name .entry)) (now (id .entry))) (now (value .entry))) ⌝ }
 {
-    give_answer(number(db, ends, name, id), value)
+    c_operations::number(db, ends, name, id, value)
 }
 
 #[no_mangle]
@@ -191,6 +163,8 @@ pub extern "C" fn termcap_number(db: &[u8], name: &[u8], id: &[u8], value: &mut 
     let ends = [db.len()];
     termcap_number_files(db, &ends, name, id, value)
 }
+
+// ---- String ----
 
 #[no_mangle]
 pub extern "C" fn termcap_string_files(
@@ -203,9 +177,11 @@ pub extern "C" fn termcap_string_files(
 ) -> u32
     ensures { λ r. ⌜ (r ≡ resultOf (stringReport (files (now (db .entry)) (now (ends .entry))) (now (name .entry)) (now (id .entry)) (now (out .entry))))
         × (now (out .exit) ≡ stringOutcome (files (now (db .entry)) (now (ends .entry))) (now (name .entry)) (now (id .entry)) (now (out .entry)) .buffer)
-        × (now (count .exit) ≡ storedValue (stringReport (files (now (db .entry)) (now (ends .entry))) (now (name .entry)) (now (id .entry)) (now (out .entry))) (now (count .entry))) ⌝ }
+        × (now (count .exit)
+        ≡ storedValue (stringReport (files (now (db .entry)) (now (ends .entry))) (now (name .entry)) (now (id .entry)) (now (out .entry)))
+        (now (count .entry))) ⌝ }
 {
-    give_answer(string(db, ends, name, id, out), count)
+    c_operations::string(db, ends, name, id, out, count)
 }
 
 #[no_mangle]
@@ -218,11 +194,14 @@ pub extern "C" fn termcap_string(
 ) -> u32
     ensures { λ r. ⌜ (r ≡ resultOf (stringReport (alone (now (db .entry))) (now (name .entry)) (now (id .entry)) (now (out .entry))))
         × (now (out .exit) ≡ stringOutcome (alone (now (db .entry))) (now (name .entry)) (now (id .entry)) (now (out .entry)) .buffer)
-        × (now (count .exit) ≡ storedValue (stringReport (alone (now (db .entry))) (now (name .entry)) (now (id .entry)) (now (out .entry))) (now (count .entry))) ⌝ }
+        × (now (count .exit)
+        ≡ storedValue (stringReport (alone (now (db .entry))) (now (name .entry)) (now (id .entry)) (now (out .entry))) (now (count .entry))) ⌝ }
 {
     let ends = [db.len()];
     termcap_string_files(db, &ends, name, id, out, count)
 }
+
+// ---- List ----
 
 #[no_mangle]
 pub extern "C" fn termcap_list_files(
@@ -234,9 +213,10 @@ pub extern "C" fn termcap_list_files(
 ) -> u32
     ensures { λ r. ⌜ (r ≡ resultOf (listReport (files (now (db .entry)) (now (ends .entry))) (now (name .entry)) (now (out .entry))))
         × (now (out .exit) ≡ listOutcome (files (now (db .entry)) (now (ends .entry))) (now (name .entry)) (now (out .entry)) .buffer)
-        × (now (records .exit) ≡ storedValue (listReport (files (now (db .entry)) (now (ends .entry))) (now (name .entry)) (now (out .entry))) (now (records .entry))) ⌝ }
+        × (now (records .exit)
+        ≡ storedValue (listReport (files (now (db .entry)) (now (ends .entry))) (now (name .entry)) (now (out .entry))) (now (records .entry))) ⌝ }
 {
-    give_count(list(db, ends, name, out), records)
+    c_operations::list(db, ends, name, out, records)
 }
 
 #[no_mangle]
@@ -249,6 +229,8 @@ pub extern "C" fn termcap_list(db: &[u8], name: &[u8], out: &mut [u8], records: 
     termcap_list_files(db, &ends, name, out, records)
 }
 
+// ---- Flat ----
+
 #[no_mangle]
 pub extern "C" fn termcap_flat_files(
     db: &[u8],
@@ -259,9 +241,10 @@ pub extern "C" fn termcap_flat_files(
 ) -> u32
     ensures { λ r. ⌜ (r ≡ resultOf (flatReport (files (now (db .entry)) (now (ends .entry))) (now (name .entry)) (now (out .entry))))
         × (now (out .exit) ≡ flatOutcome (files (now (db .entry)) (now (ends .entry))) (now (name .entry)) (now (out .entry)) .buffer)
-        × (now (count .exit) ≡ storedValue (flatReport (files (now (db .entry)) (now (ends .entry))) (now (name .entry)) (now (out .entry))) (now (count .entry))) ⌝ }
+        × (now (count .exit)
+        ≡ storedValue (flatReport (files (now (db .entry)) (now (ends .entry))) (now (name .entry)) (now (out .entry))) (now (count .entry))) ⌝ }
 {
-    give_count(flat(db, ends, name, out), count)
+    c_operations::flat(db, ends, name, out, count)
 }
 
 #[no_mangle]
@@ -273,6 +256,8 @@ pub extern "C" fn termcap_flat(db: &[u8], name: &[u8], out: &mut [u8], count: &m
     let ends = [db.len()];
     termcap_flat_files(db, &ends, name, out, count)
 }
+
+// ---- a batch ----
 
 // "A buffer of 4-byte questions": an answer of eight bytes for each, in `out`.
 #[no_mangle]
@@ -287,9 +272,10 @@ pub extern "C" fn termcap_batch_files(
     ensures { λ r. ⌜ (r ≡ resultOf (batchReport (files (now (db .entry)) (now (ends .entry))) (now (name .entry)) (now (questions .entry)) (now (out .entry))))
         × (now (out .exit) ≡ batchOutcome (files (now (db .entry)) (now (ends .entry))) (now (name .entry)) (now (questions .entry)) (now (out .entry)) .buffer)
         × (now (answers .exit)
-        ≡ storedValue (batchReport (files (now (db .entry)) (now (ends .entry))) (now (name .entry)) (now (questions .entry)) (now (out .entry))) (now (answers .entry))) ⌝ }
+        ≡ storedValue (batchReport (files (now (db .entry)) (now (ends .entry))) (now (name .entry)) (now (questions .entry)) (now (out .entry)))
+        (now (answers .entry))) ⌝ }
 {
-    give_count(batch(db, ends, name, questions, out), answers)
+    c_operations::batch(db, ends, name, questions, out, answers)
 }
 
 #[no_mangle]
@@ -309,6 +295,8 @@ pub extern "C" fn termcap_batch(
     termcap_batch_files(db, &ends, name, questions, out, answers)
 }
 
+// ---- Repair ----
+
 // "A mended database, and a 16-byte record for each thing removed": `out` gets the one, `records` the others.
 #[no_mangle]
 pub extern "C" fn termcap_repair(
@@ -324,15 +312,10 @@ pub extern "C" fn termcap_repair(
         × (now (count .exit) ≡ storedValue (repairReport (now (db .entry)) (now (out .entry)) (now (records .entry))) (now (count .entry)))
         × (now (removed .exit) ≡ storedSecond (repairReport (now (db .entry)) (now (out .entry)) (now (records .entry))) (now (removed .entry))) ⌝ }
 {
-    match repair(db, out, records) {
-        Repaired::Counts(bytes, number) => {
-            *count = bytes as u64;
-            *removed = number as u64;
-            0
-        }
-        Repaired::Refused(r) => r.number() as u32,
-    }
+    c_operations::repair(db, out, records, count, removed)
 }
+
+// ---- Send ----
 
 #[no_mangle]
 pub extern "C" fn termcap_send(
@@ -347,8 +330,10 @@ pub extern "C" fn termcap_send(
         × (now (out .exit) ≡ sendOutcome (now (command .entry)) lines speed pad (now (out .entry)) .buffer)
         × (now (count .exit) ≡ storedValue (sendReport (now (command .entry)) lines speed pad (now (out .entry))) (now (count .entry))) ⌝ }
 {
-    give_count(send(command, lines, speed, pad, out), count)
+    c_operations::send(command, lines, speed, pad, out, count)
 }
+
+// ---- Send at ----
 
 #[no_mangle]
 pub extern "C" fn termcap_send_at(
@@ -365,23 +350,25 @@ pub extern "C" fn termcap_send_at(
 ) -> u32
     ensures { λ r. ⌜ (r ≡ resultOf (sendAtReport (now (command .entry)) row column (now (back .entry)) (now (up .entry)) lines speed pad (now (out .entry))))
         × (now (out .exit) ≡ sendAtOutcome (now (command .entry)) row column (now (back .entry)) (now (up .entry)) lines speed pad (now (out .entry)) .buffer)
-        × (now (count .exit) ≡ storedValue (sendAtReport (now (command .entry)) row column (now (back .entry)) (now (up .entry)) lines speed pad (now (out .entry))) (now (count .entry))) ⌝ }
+        × (now (count .exit)
+        ≡ storedValue (sendAtReport (now (command .entry)) row column (now (back .entry)) (now (up .entry)) lines speed pad (now (out .entry)))
+        (now (count .entry))) ⌝ }
 {
-    give_count(
-        send_at(command, row, column, back, up, lines, speed, pad, out),
+    c_operations::send_at(
+        command,
+        row,
+        column,
+        back,
+        up,
+        lines,
+        speed,
+        pad,
+        out,
         count,
     )
 }
 
-// How a star is stored.
-fn star_number(star: bool) -> u64
-    ensures { λ r. ⌜ r ≡ pick star 1 0 ⌝ }
-{
-    if star {
-        return 1;
-    }
-    0
-}
+// ---- the first half of Send at ----
 
 // The first half of Send at: `out` gets the finished bytes, of which there are `count`; their delay is in tenths of a millisecond, before its star.
 #[no_mangle]
@@ -398,20 +385,17 @@ pub extern "C" fn termcap_fill(
 ) -> u32
     ensures { λ r. ⌜ (r ≡ resultOf (fillReport (now (command .entry)) row column (now (back .entry)) (now (up .entry)) (now (out .entry))))
         × (now (out .exit) ≡ fillOutcome (now (command .entry)) row column (now (back .entry)) (now (up .entry)) (now (out .entry)) .buffer)
-        × (now (delay .exit) ≡ storedValue (fillReport (now (command .entry)) row column (now (back .entry)) (now (up .entry)) (now (out .entry))) (now (delay .entry)))
-        × (now (star .exit) ≡ storedSecond (fillReport (now (command .entry)) row column (now (back .entry)) (now (up .entry)) (now (out .entry))) (now (star .entry)))
-        × (now (count .exit) ≡ storedThird (fillReport (now (command .entry)) row column (now (back .entry)) (now (up .entry)) (now (out .entry))) (now (count .entry))) ⌝ }
+        × (now (delay .exit)
+        ≡ storedValue (fillReport (now (command .entry)) row column (now (back .entry)) (now (up .entry)) (now (out .entry))) (now (delay .entry)))
+        × (now (star .exit)
+        ≡ storedSecond (fillReport (now (command .entry)) row column (now (back .entry)) (now (up .entry)) (now (out .entry))) (now (star .entry)))
+        × (now (count .exit)
+        ≡ storedThird (fillReport (now (command .entry)) row column (now (back .entry)) (now (up .entry)) (now (out .entry))) (now (count .entry))) ⌝ }
 {
-    match fill(command, row, column, back, up, out) {
-        Fill::Finished(f) => {
-            *delay = f.delay as u64;
-            *star = star_number(f.star);
-            *count = f.count as u64;
-            0
-        }
-        Fill::Refused(r) => r.number() as u32,
-    }
+    c_operations::fill(command, row, column, back, up, out, delay, star, count)
 }
+
+// ---- the second half of Send at ----
 
 // The second half of Send at; any star but 0 is one.
 #[no_mangle]
@@ -429,8 +413,7 @@ pub extern "C" fn termcap_pad(
         × (now (out .exit) ≡ padOutcome delay (hasStar star) (now (bytes .entry)) lines speed pad (now (out .entry)) .buffer)
         × (now (count .exit) ≡ storedValue (padReport delay (hasStar star) (now (bytes .entry)) lines speed pad (now (out .entry))) (now (count .entry))) ⌝ }
 {
-    give_count(
-        sending::pad(delay, star != 0, bytes, lines, speed, pad, out),
-        count,
-    )
+    c_operations::pad(delay, star, bytes, lines, speed, pad, out, count)
 }
+
+// ---- the end ----

@@ -2,8 +2,8 @@ use lib.Dec.{eqb}
 use lib.ListN.{getD}
 use borrow.Author.Tests.{eqb-false}
 use Rattle.finder.proofs.Steps as Steps
-use mathlib.Core.Path.{_≡_, refl, sym, _∙_, ap}
-use mathlib.Core.Bool.{Bool, true, false}
+use mathlib.Core.Path.{_≡_}
+use mathlib.Core.Bool.{false}
 use native.Mathlib.Omega.{arith}
 use Prim.Native.Nat.{_+_, _-_, _≤_}
 use Rattle.finder.specs.Answers.{NoNewline}
@@ -32,10 +32,21 @@ loop-less : tie.Need-loop-less Inv-loop μ-loop
 loop-less c = omega arith
 
 loop-again : tie.Need-loop-again Inv-loop μ-loop
-loop-again c = let a = c .before .before .before .args in let l = c .before .before .loop in let t = eqb (getD (a .s .now) (a .from + l .k) 0) 10 in (omega arith, λ e. Steps.stretch-to (a .s .now) (a .from) (a .from + l .k + 1) (a .from + (l .k + 1)) (Steps.stretch-more (a .s .now) (a .from) (a .from + l .k) (l .inv .1 (Steps.or-left (l .hit) t e)) (eqb-false (getD (a .s .now) (a .from + l .k) 0) 10 (Steps.or-right (l .hit) t e))) (omega arith))
+loop-again c =
+    let a = c .before .before .before .args in
+    let l = c .before .before .loop in
+    let t = eqb (getD (a .s .now) (a .from + l .k) 0) 10 in (
+      omega arith,
+      λ e. Steps.stretch-to (a .s .now) (a .from) (a .from + l .k + 1) (a .from + (l .k + 1)) (Steps.stretch-more (a .s .now) (a .from)
+          (a .from + l .k) (l .inv .1 (Steps.or-left (l .hit) t e)) (eqb-false (getD (a .s .now) (a .from + l .k) 0) 10 (Steps.or-right (l .hit) t e)))
+          (omega arith),
+    )
 
 returns : tie.Need-returns Inv-loop μ-loop
-returns c = let a = c .before .before .args in let l = c .before .loop in λ e. Steps.stretch-to (a .s .now) (a .from) (a .from + l .k) (a .from + 16) (l .inv .1 e) (omega arith)
+returns c =
+    let a = c .before .before .args in
+    let l = c .before .loop in
+    λ e. Steps.stretch-to (a .s .now) (a .from) (a .from + l .k) (a .from + 16) (l .inv .1 e) (omega arith)
 
 pub any-newline-spec : {M : Type 1} → statement M
 any-newline-spec =

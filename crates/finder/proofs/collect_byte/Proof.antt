@@ -1,6 +1,5 @@
 use Rattle.finder.proofs.Steps as Steps
-use mathlib.Core.Path.{_≡_, refl, sym, _∙_, ap}
-use mathlib.Core.Bool.{Bool, true, false}
+use mathlib.Core.Path.{sym}
 use native.Mathlib.Omega.{arith}
 use borrow.Author.Needs.{needs}
 use Rattle.finder.proofs.collect_byte.Statement.{statement}
@@ -22,7 +21,10 @@ same-length : tie.Need-same-length
 same-length c = search needs
 
 returns-2 : tie.Need-returns-2
-returns-2 c = let a = c .before .before .before .before .before .before .args in let p = c .before .before .put-byte .ensures in rw p (sym (Steps.collect-more (a .l) (a .text .now) (a .b) (omega (arith, c .before .before .before .before .if1 .left))))
+returns-2 c =
+    let a = c .before .before .before .before .before .before .args in
+    let p = c .before .before .put-byte .ensures in
+    rw p (sym (Steps.collect-more (a .l) (a .text .now) (a .b) (omega (arith, c .before .before .before .before .if1 .left))))
 
 pub collect-byte-spec : {M : Type 1} → statement M
 collect-byte-spec =

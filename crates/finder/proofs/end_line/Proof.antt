@@ -1,7 +1,5 @@
 use Rattle.finder.proofs.Steps as Steps
-use mathlib.Core.Path.{_≡_, refl, sym, _∙_, ap}
-use mathlib.Core.Bool.{Bool, true, false}
-use native.Mathlib.Omega.{arith}
+use mathlib.Core.Path.{sym}
 use borrow.Author.Needs.{needs}
 use Rattle.finder.proofs.end_line.Statement.{statement}
 use Rattle.finder.proofs.end_line.Tie as tie
@@ -22,10 +20,14 @@ cast-if5 : tie.Need-cast-if5
 cast-if5 c = search needs
 
 returns-5 : tie.Need-returns-5
-returns-5 c = λ t. let a = c .before .before .before .before .before .before .args in sym (Steps.end-asked (a .name .now) (a .l) (c .before .before .before .before .before .if1 .left) (c .before .before .before .before .if2 .left) (c .before .before .before .if3 .left) (c .before .before .if4 .left) (c .if5 .taken) t)
+returns-5 c = λ t. let a = c .before .before .before .before .before .before .args in sym (Steps.end-asked (a .name .now) (a .l)
+    (c .before .before .before .before .before .if1 .left) (c .before .before .before .before .if2 .left) (c .before .before .before .if3 .left)
+    (c .before .before .if4 .left) (c .if5 .taken) t)
 
 returns-6 : tie.Need-returns-6
-returns-6 c = λ t. let a = c .before .before .before .before .before .before .args in sym (Steps.end-next (a .name .now) (a .l) (c .before .before .before .before .before .if1 .left) (c .before .before .before .before .if2 .left) (c .before .before .before .if3 .left) (c .before .before .if4 .left) (c .if5 .left) t)
+returns-6 c = λ t. let a = c .before .before .before .before .before .before .args in sym (Steps.end-next (a .name .now) (a .l)
+    (c .before .before .before .before .before .if1 .left) (c .before .before .before .before .if2 .left) (c .before .before .before .if3 .left)
+    (c .before .before .if4 .left) (c .if5 .left) t)
 
 pub end-line-spec : {M : Type 1} → statement M
 end-line-spec =

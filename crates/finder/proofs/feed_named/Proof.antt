@@ -1,9 +1,6 @@
-use Rattle.finder.proofs.Steps as Steps
-use mathlib.Core.Path.{_≡_, refl, sym, _∙_, ap}
-use mathlib.Core.Bool.{Bool, true, false}
+use mathlib.Core.Path.{sym}
 use native.Mathlib.Omega.{arith}
 use borrow.Author.Needs.{needs}
-use lib.ListN.{length, take}
 use lib.Seq.{length-take-le, take-all}
 use Rattle.finder.proofs.feed_named.Statement.{statement}
 use Rattle.finder.proofs.feed_named.Tie as tie
@@ -12,7 +9,10 @@ slice-aggregate-feed-block : tie.Need-slice-aggregate-feed-block
 slice-aggregate-feed-block c = let a = c .before .before .before .before .before .args in sym (length-take-le (a .size) (a .name .now) (omega arith))
 
 feed-block-requires : tie.Need-feed-block-requires
-feed-block-requires c κs = let a = c .before .before .before .before .before .before .args in let e = length-take-le (a .size) (a .name .now) (omega arith) in omega (arith, e)
+feed-block-requires c κs =
+    let a = c .before .before .before .before .before .before .args in
+    let e = length-take-le (a .size) (a .name .now) (omega arith) in
+    omega (arith, e)
 
 same-length : tie.Need-same-length
 same-length c = search needs
@@ -27,7 +27,9 @@ same-length-2 : tie.Need-same-length-2
 same-length-2 c = search needs
 
 returns-2 : tie.Need-returns-2
-returns-2 c = let a = c .before .before .before .before .before .before .before .before .args in rw (take-all (a .size) (a .name .now) (c .before .before .before .before .if1 .left)) (c .before .before .feed-block2 .ensures)
+returns-2 c =
+    let a = c .before .before .before .before .before .before .before .before .args in
+    rw (take-all (a .size) (a .name .now) (c .before .before .before .before .if1 .left)) (c .before .before .feed-block2 .ensures)
 
 pub feed-named-spec : {M : Type 1} → statement M
 feed-named-spec =

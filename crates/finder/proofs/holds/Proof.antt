@@ -1,6 +1,5 @@
 -- `finder::holds` meets its contract. Assumes nothing.
 use borrow.Author.Tests.{eq-eqb, ne-eqb}
-use borrow.Author.Needs.{needs}
 use Rattle.finder.proofs.holds.Statement.{statement}
 use Rattle.finder.proofs.holds.Tie as tie
 

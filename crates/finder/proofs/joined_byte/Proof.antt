@@ -1,7 +1,5 @@
 use Rattle.finder.proofs.Steps as Steps
-use mathlib.Core.Path.{_≡_, refl, sym, _∙_, ap}
-use mathlib.Core.Bool.{Bool, true, false}
-use native.Mathlib.Omega.{arith}
+use mathlib.Core.Path.{sym, _∙_}
 use borrow.Author.Needs.{needs}
 use Rattle.finder.proofs.joined_byte.Statement.{statement}
 use Rattle.finder.proofs.joined_byte.Tie as tie
@@ -10,7 +8,9 @@ end-line-requires : tie.Need-end-line-requires
 end-line-requires c κs = search needs
 
 returns : tie.Need-returns
-returns c = let a = c .before .before .before .before .args in c .end-line .ensures (a .text .now) ∙ sym (Steps.joined-end (a .name .now) (a .l) (a .text .now) (a .b) (c .before .if1 .taken))
+returns c =
+    let a = c .before .before .before .before .args in
+    c .end-line .ensures (a .text .now) ∙ sym (Steps.joined-end (a .name .now) (a .l) (a .text .now) (a .b) (c .before .if1 .taken))
 
 line-byte-requires : tie.Need-line-byte-requires
 line-byte-requires c κs = search needs
@@ -19,7 +19,9 @@ same-length : tie.Need-same-length
 same-length c = search needs
 
 returns-2 : tie.Need-returns-2
-returns-2 c = let a = c .before .before .before .before .before .before .before .args in c .before .before .line-byte .ensures ∙ sym (Steps.joined-on (a .name .now) (a .l) (a .text .now) (a .b) (c .before .before .before .before .if1 .left))
+returns-2 c =
+    let a = c .before .before .before .before .before .before .before .args in
+    c .before .before .line-byte .ensures ∙ sym (Steps.joined-on (a .name .now) (a .l) (a .text .now) (a .b) (c .before .before .before .before .if1 .left))
 
 pub joined-byte-spec : {M : Type 1} → statement M
 joined-byte-spec =

@@ -1,7 +1,5 @@
 use Rattle.finder.proofs.Steps as Steps
-use mathlib.Core.Path.{_≡_, refl, sym, _∙_, ap}
-use mathlib.Core.Bool.{Bool, true, false}
-use native.Mathlib.Omega.{arith}
+use mathlib.Core.Path.{sym, _∙_}
 use borrow.Author.Needs.{needs}
 use Rattle.finder.proofs.line_byte.Statement.{statement}
 use Rattle.finder.proofs.line_byte.Tie as tie
@@ -13,7 +11,10 @@ same-length : tie.Need-same-length
 same-length c = search needs
 
 returns : tie.Need-returns
-returns c = let a = c .before .before .before .before .before .before .before .args in c .before .before .collect-byte .ensures ∙ sym (Steps.line-matching (a .name .now) (a .l) (a .text .now) (a .b) (c .before .before .before .before .if1 .taken))
+returns c =
+    let a = c .before .before .before .before .before .before .before .args in
+    c .before .before .collect-byte .ensures
+    ∙ sym (Steps.line-matching (a .name .now) (a .l) (a .text .now) (a .b) (c .before .before .before .before .if1 .taken))
 
 returns-2 : tie.Need-returns-2
 returns-2 c = let a = c .before .before .before .before .args in sym (Steps.line-passed (a .name .now) (a .l) (a .text .now) (a .b) (c .if2 .taken))
@@ -28,7 +29,11 @@ same-length-2 : tie.Need-same-length-2
 same-length-2 c = search needs
 
 returns-4 : tie.Need-returns-4
-returns-4 c = let a = c .before .before .before .before .before .before .before .before .before .args in c .before .before .names-byte .ensures ∙ sym (Steps.line-names (a .name .now) (a .l) (a .text .now) (a .b) (c .before .before .before .before .before .before .if1 .left) (c .before .before .before .before .before .if2 .left) (c .before .before .before .before .if3 .left))
+returns-4 c =
+    let a = c .before .before .before .before .before .before .before .before .before .args in
+    c .before .before .names-byte .ensures
+    ∙ sym (Steps.line-names (a .name .now) (a .l) (a .text .now) (a .b) (c .before .before .before .before .before .before .if1 .left)
+    (c .before .before .before .before .before .if2 .left) (c .before .before .before .before .if3 .left))
 
 pub line-byte-spec : {M : Type 1} → statement M
 line-byte-spec =

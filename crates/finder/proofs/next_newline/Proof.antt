@@ -1,6 +1,4 @@
 use Rattle.finder.proofs.Steps as Steps
-use mathlib.Core.Path.{_≡_, refl, sym, _∙_, ap}
-use mathlib.Core.Bool.{Bool, true, false}
 use native.Mathlib.Omega.{arith}
 use borrow.Author.Needs.{needs}
 use Prim.Native.Nat.{_+_, _-_, _≤_}
@@ -32,13 +30,27 @@ loop-less : tie.Need-loop-less Inv-loop μ-loop
 loop-less c = omega arith
 
 loop-again : tie.Need-loop-again Inv-loop μ-loop
-loop-again c = let a = c .before .before .before .before .before .before .args in let l = c .before .before .before .before .loop in (omega arith, (λ h. omega arith), Steps.stretch-join (a .s .now) (a .from) (l .i) (l .i + 16) (l .inv .2) (c .before .any-newline .ensures (not-true (c .before .any-newline .result) (c .if2 .taken))))
+loop-again c =
+    let a = c .before .before .before .before .before .before .args in
+    let l = c .before .before .before .before .loop in (
+      omega arith,
+      (λ h. omega arith),
+      Steps.stretch-join (a .s .now) (a .from) (l .i) (l .i + 16) (l .inv .2) (c .before .any-newline .ensures (not-true
+          (c .before .any-newline .result) (c .if2 .taken))),
+    )
 
 first-newline-requires : tie.Need-first-newline-requires Inv-loop μ-loop
 first-newline-requires c κs = search needs
 
 returns : tie.Need-returns Inv-loop μ-loop
-returns c = let a = c .before .before .before .before .before .args in let l = c .before .before .before .loop in let e = c .first-newline .ensures in ((λ h. let w = e .0 (omega arith) in (omega (arith, w .0, l .inv .0), w .1)), Steps.stretch-join (a .s .now) (a .from) (l .i) (c .first-newline .result) (l .inv .2) (e .1))
+returns c =
+    let a = c .before .before .before .before .before .args in
+    let l = c .before .before .before .loop in
+    let e = c .first-newline .ensures in (
+      (λ h. let w = e .0 (omega arith) in (omega (arith, w .0, l .inv .0), w .1)),
+      Steps.stretch-join (a .s .now) (a .from) (l .i) (c .first-newline .result)
+          (l .inv .2) (e .1),
+    )
 
 returns-2 : tie.Need-returns-2 Inv-loop μ-loop
 returns-2 c = let l = c .before .loop in ((λ h. (l .inv .0, l .inv .1 h)), l .inv .2)

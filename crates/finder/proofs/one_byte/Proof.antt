@@ -1,14 +1,14 @@
 use Rattle.finder.proofs.Steps as Steps
-use mathlib.Core.Path.{_≡_, refl, sym, _∙_, ap}
-use mathlib.Core.Bool.{Bool, true, false}
-use native.Mathlib.Omega.{arith}
+use mathlib.Core.Path.{sym, _∙_, ap}
 use Rattle.spec.specs.Finder.{Collecting, unheldByte}
 use borrow.Author.Needs.{needs}
 use Rattle.finder.proofs.one_byte.Statement.{statement}
 use Rattle.finder.proofs.one_byte.Tie as tie
 
 returns : tie.Need-returns
-returns c = let a = c .before .before .before .before .before .before .args in sym (Steps.held-pair (a .name .now) _ (a .b) (a .p .held) (c .if2 .taken) (c .before .if1 .taken))
+returns c =
+    let a = c .before .before .before .before .before .before .args in
+    sym (Steps.held-pair (a .name .now) _ (a .b) (a .p .held) (c .if2 .taken) (c .before .if1 .taken))
 
 joined-byte-requires : tie.Need-joined-byte-requires
 joined-byte-requires c κs = search needs
@@ -20,7 +20,12 @@ same-length : tie.Need-same-length
 same-length c = search needs
 
 returns-2 : tie.Need-returns-2
-returns-2 c = let a = c .before .before .before .before .before .before .before .before .before .before .before .before .before .before .args in c .before .before .unheld-byte .ensures ∙ ap (λ (x : Collecting). unheldByte (a .name .now) x (a .b)) (c .before .before .before .before .before .before .joined-byte .ensures) ∙ sym (Steps.held-released (a .name .now) _ (a .b) (a .p .held) (c .before .before .before .before .before .before .before .before .if2 .left) (c .before .before .before .before .before .before .before .before .before .if1 .taken))
+returns-2 c =
+    let a = c .before .before .before .before .before .before .before .before .before .before .before .before .before .before .args in
+    c .before .before .unheld-byte .ensures
+    ∙ ap (λ (x : Collecting). unheldByte (a .name .now) x (a .b)) (c .before .before .before .before .before .before .joined-byte .ensures)
+    ∙ sym (Steps.held-released (a .name .now) _ (a .b) (a .p .held) (c .before .before .before .before .before .before .before .before .if2 .left)
+    (c .before .before .before .before .before .before .before .before .before .if1 .taken))
 
 unheld-byte-requires-2 : tie.Need-unheld-byte-requires-2
 unheld-byte-requires-2 c κs = search needs
@@ -29,7 +34,9 @@ same-length-2 : tie.Need-same-length-2
 same-length-2 c = search needs
 
 returns-3 : tie.Need-returns-3
-returns-3 c = let a = c .before .before .before .before .before .before .before .before .before .args in c .before .before .unheld-byte2 .ensures ∙ sym (Steps.not-held (a .name .now) _ (a .b) (a .p .held) (c .before .before .before .before .if1 .left))
+returns-3 c =
+    let a = c .before .before .before .before .before .before .before .before .before .args in
+    c .before .before .unheld-byte2 .ensures ∙ sym (Steps.not-held (a .name .now) _ (a .b) (a .p .held) (c .before .before .before .before .if1 .left))
 
 pub one-byte-spec : {M : Type 1} → statement M
 one-byte-spec =

@@ -1,7 +1,3 @@
-use Rattle.finder.proofs.Steps as Steps
-use mathlib.Core.Path.{_≡_, refl, sym, _∙_, ap}
-use mathlib.Core.Bool.{Bool, true, false}
-use native.Mathlib.Omega.{arith}
 use borrow.Author.Tests.{eq-eqb, ne-eqb}
 use Rattle.finder.proofs.starts_comment.Statement.{statement}
 use Rattle.finder.proofs.starts_comment.Tie as tie

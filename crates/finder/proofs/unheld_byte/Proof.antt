@@ -1,7 +1,5 @@
 use Rattle.finder.proofs.Steps as Steps
-use mathlib.Core.Path.{_≡_, refl, sym, _∙_, ap}
-use mathlib.Core.Bool.{Bool, true, false}
-use native.Mathlib.Omega.{arith}
+use mathlib.Core.Path.{sym, _∙_, ap}
 use Rattle.spec.specs.Finder.{feeding}
 use borrow.Author.Needs.{needs}
 use Rattle.finder.proofs.unheld_byte.Statement.{statement}
@@ -17,7 +15,10 @@ same-length : tie.Need-same-length
 same-length c = search needs
 
 returns-2 : tie.Need-returns-2
-returns-2 c = let a = c .before .before .before .before .before .before .before .args in ap (feeding 0) (c .before .before .joined-byte .ensures) ∙ sym (Steps.unheld-other (a .name .now) (a .l) (a .text .now) (a .b) (c .before .before .before .before .if1 .left))
+returns-2 c =
+    let a = c .before .before .before .before .before .before .before .args in
+    ap (feeding 0) (c .before .before .joined-byte .ensures)
+    ∙ sym (Steps.unheld-other (a .name .now) (a .l) (a .text .now) (a .b) (c .before .before .before .before .if1 .left))
 
 pub unheld-byte-spec : {M : Type 1} → statement M
 unheld-byte-spec = tie.close (tie.spec returns joined-byte-requires same-length returns-2)
