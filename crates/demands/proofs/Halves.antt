@@ -39,7 +39,7 @@ use Rattle.demands.specs.Halves.{RoomBetween, andThen, TwoInARow, DelayT
 
 -- ---- the delay that the first half gives is never refused by the second
 
-abbrev SmallDelay : Prepared → Type 0
+abbrev pub SmallDelay : Prepared → Type 0
 SmallDelay (finished f) = f .delay ≤ 99999
 SmallDelay (refused r) = Unit {0}
 
@@ -56,7 +56,7 @@ weaker : (x : Prefix) → Splits (λ (p : Split). p .delay < 100000) x → Split
 weaker (Prefix.split p) h = omega (arith, h)
 weaker (Prefix.refused r) h = tt
 
-prepared-small : (cmd : List ℕ) (row column : ℕ) (back up : List ℕ) → SmallDelay (preparedAt cmd row column back up)
+pub prepared-small : (cmd : List ℕ) (row column : ℕ) (back up : List ℕ) → SmallDelay (preparedAt cmd row column back up)
 unfolding preparedAt
 prepared-small cmd row column back up = go (goodPlace row column)
   where

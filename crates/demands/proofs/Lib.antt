@@ -7,6 +7,7 @@ pub mod OneFile
 pub mod UnreadBytes
 pub mod Search
 pub mod Limits
+pub mod FillRoom
 pub mod Room
 pub mod SoundWalks
 pub mod MendedLines

@@ -1,14 +1,14 @@
 -- Lent buffers of the stated sizes are never too small, and no command asks for more pads than stated. Assumes nothing.
-use Prim.Native.Nat.{ℕ, zero, suc, _+_, _*_, _/_, _≤_, _<_}
+use Prim.Native.Nat.{ℕ, zero, suc, _+_, _*_, _≤_, _<_}
 use mathlib.Core.Path.{_≡_, refl, sym, ap, subst, _∙_}
 use mathlib.Core.Bool.{Bool, true, false}
 use mathlib.Core.List.{List, [], _∷_, _++_}
 use native.Mathlib.Nat.{mul-le-mul}
 use native.Mathlib.Omega.{arith}
-use borrow.Author.Tests.{le-leb}
+use borrow.Author.Tests.{le-leb, leb-true}
 use lib.Dec.{eqb, leb, ltb}
-use lib.ListN.{length}
-use Rattle.spec.specs.Choice.{pick, both, either}
+use lib.ListN.{length, replicate, length-append, length-replicate}
+use Rattle.spec.specs.Choice.{pick, both, either, between}
 use Rattle.spec.specs.Lines.{blank}
 use Rattle.spec.specs.Files.{Files, goodEnds, contents, lineOf, findFrom}
 use Rattle.spec.specs.Refusals.{refusalNumber, goodName, goodId, tooLarge, idBytes, isTc}
@@ -42,26 +42,45 @@ use Rattle.spec.specs.Fields.{
 use Rattle.spec.specs.Chain.{Chain, broken, chain, visited, linkTarget, entered, follow, walk, Field, Terminal, refused, terminal, described, resolve}
 use Rattle.spec.specs.Lookup.{Hit, none, hit, lookup, winning, bytesOf}
 use Rattle.spec.specs.Padding.{Prefix, Split, split, prefixOf, delayFor, padCount}
-use Rattle.spec.specs.Answers.{Outcome, keeping, put}
+use Rattle.spec.specs.Answers.{put}
 use Rattle.spec.specs.Questions.{terminalOf, terminalFor, presented, decodedOutcome, stringFor, stringOutcome}
+use Rattle.spec.specs.Sending.{
+  Prepared,
+  finished,
+  copied,
+  prepared,
+  preparedAt,
+  Outgoing,
+  padsOf,
+  goodSpeed,
+  padded,
+  delivered,
+  sendOutcome,
+  sendAtOutcome,
+  filledInto,
+  fillOutcome,
+}
 use Rattle.spec.specs.Listing.{records, listFor, listOutcome, flatText, flatFor, flatOutcome}
 use Rattle.spec.specs.declared.Location.{Location}
 use Rattle.spec.specs.declared.Located.{Located}
 use Rattle.spec.specs.declared.Located.the-variants.{At, Nothing}
 use Rattle.spec.specs.declared.Refusal.{Refusal}
-use Rattle.spec.specs.declared.Refusal.the-variants.{BadName, BadId, DatabaseTooLarge, UnknownName, LostLink, Malformed, Cycle, ChainTooLarge, NoRoom, BadEnds}
-use Rattle.spec.specs.declared.Answer.{Answer}
-use Rattle.spec.specs.declared.Answer.the-variants.{Present, Absent, Refused as NotAnswered}
+use Rattle.spec.specs.declared.Refusal.the-variants.{BadName, BadId, DatabaseTooLarge, UnknownName, LostLink, NoRoom, OutOfRange, BadEnds}
+use Rattle.spec.specs.declared.Answer.the-variants.{Present, Refused as NotAnswered}
 use Rattle.spec.specs.declared.Written.{Written}
 use Rattle.spec.specs.declared.Written.the-variants.{Count, Refused}
 use Rattle.spec.proofs.LookupSteps.{hit-size}
-use Rattle.spec.proofs.Tests.{pick-all}
+use Rattle.spec.proofs.Tests.{pick-all, pick-told, both-true}
+use Rattle.spec.proofs.Buffers.{not-nine}
 use Rattle.spec.proofs.Readings.{decode-short}
 use Rattle.spec.proofs.FlatAlone.{sound}
 use Rattle.spec.proofs.ListingBounds.{accepted-bounded}
 use Rattle.spec.proofs.PaddingLaws.{Splits, delay-below}
 use Rattle.demands.specs.Demand3.{HasRoom, QuestionHasRoom}
+use Rattle.demands.specs.Halves.{RoomBetween}
 use Rattle.demands.specs.Room.{EnoughRoom}
+use Rattle.demands.proofs.Halves.{SmallDelay, prepared-small}
+use Rattle.demands.proofs.FillRoom.{room, Ready, prepared-ready, filled-ready}
 
 -- ---- the refusals of a chain are 4 to 8; no refusal of a terminal is 9
 
@@ -93,7 +112,7 @@ EarlyTerminal (refused r) = r ≡ NoRoom → ⊥
 EarlyTerminal (terminal names fs) = Unit {0}
 
 early-room : (r : Refusal) → refusalNumber r ≤ 8 → r ≡ NoRoom → ⊥
-early-room r h e = omega (arith, h, ap refusalNumber e)
+early-room r h = not-nine r (omega arith)
 
 described-early : (db : List (List ℕ)) (c : Chain) → Early c → EarlyTerminal (described db c)
 unfolding described
@@ -101,7 +120,7 @@ described-early db (broken r) h = early-room r h
 described-early db (chain ps) h = tt
 
 bad-ends : BadEnds ≡ NoRoom → ⊥
-bad-ends e = omega (arith, ap refusalNumber e)
+bad-ends = not-nine BadEnds (omega arith)
 
 terminal-early : (db : Files) (name : List ℕ) → EarlyTerminal (terminalOf db name)
 unfolding terminalOf resolve walk
@@ -270,5 +289,61 @@ pads-most cmd p lines speed e l s =
     let small : p .delay < 100000 = subst (Splits (λ (q : Split). q .delay < 100000)) e (delay-below cmd) in
     handed-most (p .delay) (p .star) lines speed (omega (arith, small)) l s
 
+-- ---- a finished command, alone and with its pads
+
+fill-room : (cmd : List ℕ) (row column : ℕ) (back up buffer : List ℕ) → room (length cmd) back up ≤ length buffer
+    → RoomBetween (fillOutcome cmd row column back up buffer .answer)
+unfolding fillOutcome
+fill-room cmd row column back up buffer h = go (preparedAt cmd row column back up) (filled-ready cmd row column back up)
+  where
+    go : (p : Prepared) → Ready (room (length cmd) back up) p → RoomBetween (filledInto p buffer .answer)
+    go (finished f) r =
+        let w = put-fits (f .bytes) (length (f .bytes)) buffer (omega arith) in
+        rw w (λ e. let z : _≡_ {A = ℕ} 0 1 = cc in omega arith)
+    go (Prepared.refused r) k = λ e. k (let f : r ≡ NoRoom = cc in f)
+
+module _ (lines speed pad : ℕ) (buffer : List ℕ) where
+  padded-room : (n : ℕ) (p : Prepared) → n + 115198848 ≤ length buffer → SmallDelay p → Ready n p
+      → HasRoom (delivered (padded p lines speed pad) buffer .answer)
+  unfolding delivered padsOf
+  padded-room n (finished f) h small ready =
+      pick-told (λ (o : Outgoing). HasRoom (delivered o buffer .answer)) (goodSpeed lines speed) counted
+      (λ e. refused-room OutOfRange (not-nine OutOfRange (omega arith)))
+    where
+      sent : List ℕ
+      sent = f .bytes ++ replicate (padCount (delayFor (f .delay) (f .star) lines) speed) pad
+
+      counted : goodSpeed lines speed ≡ true → HasRoom (put sent (length sent) buffer .answer)
+      counted e =
+          let t = both-true (between 1 1000 lines) (leb speed 115200) e in
+          let few = leb-true lines 1000 (both-true (leb 1 lines) (leb lines 1000) (t .0) .1) in
+          let most = handed-most (f .delay) (f .star) lines speed small few (leb-true speed 115200 (t .1)) in
+          count-room _ _ (put-fits sent (length sent) buffer (rw (length-append, length-replicate) (omega arith)))
+  padded-room n (Prepared.refused r) h small k = refused-room r k
+
+  send-room : (cmd : List ℕ) → length cmd + 115198848 ≤ length buffer → HasRoom (sendOutcome cmd lines speed pad buffer .answer)
+  unfolding sendOutcome prepared
+  send-room cmd h = padded-room (length cmd) (prepared cmd) h (go (prefixOf cmd) (delay-below cmd)) (prepared-ready cmd)
+    where
+      go : (x : Prefix) → Splits (λ (p : Split). p .delay < 100000) x → SmallDelay (copied x)
+      go (split p) s = omega arith
+      go (Prefix.refused r) s = tt
+
+  send-at-room : (cmd : List ℕ) (row column : ℕ) (back up : List ℕ) → room (length cmd) back up + 115198848 ≤ length buffer
+      → HasRoom (sendAtOutcome cmd row column back up lines speed pad buffer .answer)
+  unfolding sendAtOutcome
+  send-at-room cmd row column back up h =
+      padded-room (room (length cmd) back up) (preparedAt cmd row column back up) h (prepared-small cmd row column back up)
+      (filled-ready cmd row column back up)
+
 pub enough-room : EnoughRoom
-enough-room = record { list = list-room; flat = flat-room; string = string-room; pads = pads-most; handed-pads = handed-most }
+enough-room = record {
+  list = list-room;
+  flat = flat-room;
+  string = string-room;
+  pads = pads-most;
+  handed-pads = handed-most;
+  fill = λ cmd row column back up buffer h. fill-room cmd row column back up buffer (omega arith);
+  send-at = λ cmd row column back up lines speed pad buffer h. send-at-room lines speed pad buffer cmd row column back up (omega arith);
+  send = λ cmd lines speed pad buffer h. send-room lines speed pad buffer cmd (omega arith);
+}

@@ -1,5 +1,5 @@
 -- The numbers that the C header and the Rust crate state: lent buffers of these sizes are never too small, and no command asks for more pads.
-use Prim.Native.Nat.{ℕ, _≤_}
+use Prim.Native.Nat.{ℕ, _+_, _*_, _≤_}
 use mathlib.Core.Path.{_≡_}
 use mathlib.Core.Bool.{Bool}
 use mathlib.Core.List.{List}
@@ -8,7 +8,9 @@ use Rattle.spec.specs.Files.{Files}
 use Rattle.spec.specs.Padding.{Split, split, prefixOf, delayFor, padCount}
 use Rattle.spec.specs.Questions.{stringOutcome}
 use Rattle.spec.specs.Listing.{listOutcome, flatOutcome}
+use Rattle.spec.specs.Sending.{sendOutcome, sendAtOutcome, fillOutcome}
 use Rattle.demands.specs.Demand3.{HasRoom, QuestionHasRoom}
+use Rattle.demands.specs.Halves.{RoomBetween}
 
 -- THE STATEMENT. Its proof is proofs/Room.
 pub record EnoughRoom : Type 0 where
@@ -24,3 +26,14 @@ pub record EnoughRoom : Type 0 where
   -- the same of a delay that is handed to the second half of Send at
   pub handed-pads : (delay : ℕ) (star : Bool) (lines speed : ℕ) → delay ≤ 99999 → lines ≤ 1000 → speed ≤ 115200
       → padCount (delayFor delay star lines) speed ≤ 115198848
+  -- "body, compensations", without pads: row and column are each written once at most, from two bytes of the command or more, as five
+  -- digits or as a byte with two compensations; "only back empty: byte 8 stands for it", twice
+  pub fill : (cmd : List ℕ) (row column : ℕ) (back up buffer : List ℕ) → length cmd + 2 * (length back + length up) + 8 ≤ length buffer
+      → RoomBetween (fillOutcome cmd row column back up buffer .answer)
+  -- "body, compensations, then pads": the same and the most pads
+  pub send-at : (cmd : List ℕ) (row column : ℕ) (back up : List ℕ) (lines speed pad : ℕ) (buffer : List ℕ)
+      → length cmd + 2 * (length back + length up) + 8 + 115198848 ≤ length buffer
+      → HasRoom (sendAtOutcome cmd row column back up lines speed pad buffer .answer)
+  -- "Send copies percent signs unchanged": the command and the most pads
+  pub send : (cmd : List ℕ) (lines speed pad : ℕ) (buffer : List ℕ) → length cmd + 115198848 ≤ length buffer
+      → HasRoom (sendOutcome cmd lines speed pad buffer .answer)

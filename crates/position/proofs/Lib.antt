@@ -1,7 +1,6 @@
 pub mod DigitWriting
 pub mod FillSteps
 pub mod OuterLoop
-pub mod OutputSizes
 pub mod RunLaws
 pub mod SequenceLaws
 pub mod StepLaws

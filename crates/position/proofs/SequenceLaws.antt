@@ -10,6 +10,7 @@ use Rattle.spec.specs.Position.{filled, refused, then, plainOf, percentOf}
 use Rattle.spec.specs.declared.Refusal.{Refusal}
 use Rattle.spec.specs.declared.position.Raising.{Raising}
 use Rattle.spec.specs.declared.position.Parameters.{Parameters}
+use Rattle.spec.specs.declared.position.Parameters.the-variants.{TwoUnused, OneUnused, AllUsed}
 use Rattle.spec.specs.declared.position.Sequence.{Sequence}
 use Rattle.spec.specs.declared.position.Output.{Output}
 use Rattle.spec.specs.declared.position.Pending.the-variants.{Letter}
@@ -25,9 +26,15 @@ use Rattle.position.specs.declared.Step.the-variants.{Done, Paused}
 use Rattle.position.proofs.FillSteps.{part, part-is}
 use Rattle.position.proofs.StepLaws.{then-then, then-none, sets-append, part-length, went-on}
 use Rattle.position.proofs.RunLaws.{at-sign, at-end}
-use Rattle.position.proofs.OutputSizes.{Fits, perform-fits}
+use Rattle.spec.proofs.OutputSizes.{weight, Fits, perform-fits}
 
 -- ---- one sequence, which was read whole
+
+-- without compensations a parameter weighs three bytes
+unowed : (ps : Parameters) → weight (λ p. 0) ps ≡ 3 * unused ps
+unowed (TwoUnused p q) = refl
+unowed (OneUnused u p) = omega arith
+unowed (AllUsed u v) = omega arith
 
 module _ (s : List ℕ) (from : ℕ) (g : Raising) (ps : Parameters) (q : Sequence) (next : ℕ) (read : SequenceRead s from (Whole q next)) where
   pub sequence-stopped : (r : Refusal) → Refused r ≡ perform g q ps → percentOf (drop from s) Letter g ps ≡ refused r
@@ -35,7 +42,9 @@ module _ (s : List ℕ) (from : ℕ) (g : Raising) (ps : Parameters) (q : Sequen
 
   module _ (x : Output) (qs : Places) (e : Gives x (parametersOf qs) ≡ perform g q ps) where
     pub sequence-fits : length (outputBytes x) + 3 * unused (parametersOf qs) ≤ 2 + 3 * unused ps
-    sequence-fits = subst (Fits ps) (sym e) (perform-fits g q ps (read .2))
+    sequence-fits =
+        let f : Fits (λ p. 0) ps (Gives x (parametersOf qs)) = subst (Fits (λ p. 0) ps) (sym e) (perform-fits (λ p. 0) (λ p h. refl) g q ps (read .2)) in
+        omega (arith, unowed ps, unowed (parametersOf qs))
 
     pub sequence-done : (out o : List ℕ) (at end : ℕ) → end ≡ at + length (outputBytes x) → o ≡ sets out at (outputBytes x) → SequenceDone s from g ps out at
         (Until next end qs) o

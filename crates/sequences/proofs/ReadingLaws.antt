@@ -5,12 +5,11 @@ use mathlib.Core.List.{List}
 use Prim.Native.Nat.{ℕ, _+_, _<_, _≤_}
 use native.Mathlib.Numerals.{add-one}
 use native.Mathlib.Omega.{arith}
-use lib.Dec.{eqb}
 use lib.ListN.{length, drop, getD, drop-of-length-le}
 use lib.Seq.{drop-cons}
 use Rattle.spec.specs.Sequences.{letter, readByte}
 use Rattle.spec.specs.Position.{refused, onByte, plainOf, percentOf}
-use Rattle.spec.proofs.Tests.{pick-all}
+use Rattle.spec.proofs.OutputSizes.{NarrowProgress, letter-narrow}
 use Rattle.spec.specs.declared.Refusal.the-variants.{UnknownSequence}
 use Rattle.spec.specs.declared.position.Raising.{Raising}
 use Rattle.spec.specs.declared.position.Parameters.{Parameters}
@@ -21,30 +20,8 @@ use Rattle.spec.specs.declared.position.Pending.{Pending}
 use Rattle.spec.specs.declared.position.Pending.the-variants.{Letter, Added, Threshold, Addend}
 use Rattle.spec.specs.declared.position.Progress.{Progress}
 use Rattle.spec.specs.declared.position.Progress.the-variants.{More, Whole, Unknown}
-use Rattle.sequences.specs.Readings.{Narrow, SequenceRead}
+use Rattle.sequences.specs.Readings.{SequenceRead}
 use Rattle.sequences.specs.declared.Reading.the-variants.{Whole as ReadWhole, Unknown as ReadUnknown}
-
--- ---- no sequence asks for more than three digits
-
-abbrev NarrowProgress : Progress → Type 0
-NarrowProgress (More w) = Unit
-NarrowProgress (Whole q) = Narrow q
-NarrowProgress Unknown = Unit
-
-letter-narrow : (b : ℕ) → NarrowProgress (letter b)
-letter-narrow b =
-    pick-all NarrowProgress (eqb b 37) tt
-    (pick-all NarrowProgress (eqb b 100) (omega arith)
-    (pick-all NarrowProgress (eqb b 50) (omega arith)
-    (pick-all NarrowProgress (eqb b 51) (omega arith)
-    (pick-all NarrowProgress (eqb b 46) tt
-    (pick-all NarrowProgress (eqb b 43) tt
-    (pick-all NarrowProgress (eqb b 105) tt
-    (pick-all NarrowProgress (eqb b 110) tt
-    (pick-all NarrowProgress (eqb b 114) tt
-    (pick-all NarrowProgress (eqb b 62) tt
-    (pick-all NarrowProgress (eqb b 66) tt
-    (pick-all NarrowProgress (eqb b 68) tt tt)))))))))))
 
 -- ---- the two letters that bytes follow
 

@@ -3,25 +3,14 @@ use Prim.Native.Nat.{ℕ, _<_, _≤_}
 use mathlib.Core.Path.{_≡_}
 use mathlib.Core.List.{List}
 use lib.ListN.{length, drop}
-use Rattle.spec.specs.Sequences.{perform}
+use Rattle.spec.specs.Sequences.{Narrow, perform}
 use Rattle.spec.specs.Position.{refused, onward, plainOf, percentOf}
 use Rattle.spec.specs.declared.Refusal.the-variants.{UnknownSequence}
 use Rattle.spec.specs.declared.position.Raising.{Raising}
 use Rattle.spec.specs.declared.position.Parameters.{Parameters}
-use Rattle.spec.specs.declared.position.Sequence.{Sequence}
-use Rattle.spec.specs.declared.position.Sequence.the-variants.{Percent, Decimal, Byte, ChangeEvery, ChangeNext, Exchange}
 use Rattle.spec.specs.declared.position.Pending.the-variants.{Letter}
 use Rattle.sequences.specs.declared.Reading.{Reading}
 use Rattle.sequences.specs.declared.Reading.the-variants.{Whole, Unknown}
-
--- No sequence asks for more than three digits.
-abbrev pub Narrow : Sequence → Type 0
-Narrow Percent = Unit
-Narrow (Decimal least) = least ≤ 3
-Narrow (Byte c) = Unit
-Narrow (ChangeEvery c) = Unit
-Narrow (ChangeNext c) = Unit
-Narrow Exchange = Unit
 
 -- The command s from a place on, where a sequence's letter is due. Whole: the sequence is done there, and then what follows it. Unknown: 10.
 abbrev pub SequenceRead : List ℕ → ℕ → Reading → Type 0

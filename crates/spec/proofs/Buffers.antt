@@ -1,20 +1,24 @@
 -- What a call with output does to the lent buffer.
 -- Assumes nothing.
 use Prim.Native.Nat.{ℕ, _≤_, _<_}
-use mathlib.Core.Path.{_≡_, refl}
+use mathlib.Core.Path.{_≡_, refl, ap}
 use mathlib.Core.Bool.{Bool, true, false}
 use mathlib.Core.List.{List, _++_}
 use native.Mathlib.Omega.{arith}
-use borrow.Author.Tests.{le-leb, lt-leb, leb-true}
+use borrow.Author.Tests.{le-leb, lt-leb}
 use lib.Dec.{leb}
-use lib.ListN.{length, drop, length-append, length-drop}
-use lib.Seq.{drop-at}
+use lib.ListN.{length, drop}
 use Rattle.spec.specs.Choice.{pick}
+use Rattle.spec.specs.Refusals.{refusalNumber}
 use Rattle.spec.specs.declared.Refusal.{Refusal}
 use Rattle.spec.specs.declared.Refusal.the-variants.{NoRoom}
 use Rattle.spec.specs.declared.Written.{Written}
 use Rattle.spec.specs.declared.Written.the-variants.{Count, Refused}
 use Rattle.spec.specs.Answers.{Outcome, put}
+
+-- A refusal with another number is not for want of room.
+pub not-nine : (r : Refusal) → (refusalNumber r ≡ 9 → ⊥) → r ≡ NoRoom → ⊥
+not-nine r h e = h (ap refusalNumber e)
 
 module _ (bytes : List ℕ) (n : ℕ) (buffer : List ℕ) where
   pub put-fits : length bytes ≤ length buffer → put bytes n buffer ≡ record { answer = Count n; buffer = bytes ++ drop (length bytes) buffer }

@@ -29,6 +29,7 @@ pub mod Records
 pub mod FlatAlone
 pub mod FlatLine
 pub mod PaddingLaws
+pub mod OutputSizes
 pub mod KindNumbers
 pub mod Stores
 pub mod ListingBounds

@@ -1,18 +1,20 @@
--- The count of pads is the least that lasts as long as the delay; a prefix's delay is below 100,000. Assumes nothing.
-use mathlib.Core.Path.{_≡_, refl, ap, _∙_}
+-- The count of pads is the least that lasts as long as the delay; a prefix's delay is below 100,000, and its body no longer than the command.
+-- Assumes nothing.
+use mathlib.Core.Path.{_≡_}
 use mathlib.Core.Bool.{Bool, true, false}
 use mathlib.Core.List.{List, [], _∷_}
-use Prim.Native.Nat.{ℕ, suc, _+_, _-_, _*_, _^_, _≤_, _<_}
+use Prim.Native.Nat.{ℕ, suc, _-_, _*_, _^_, _≤_, _<_}
 use native.Mathlib.Nat.{mul-pos, zero-mul, mul-zero}
 use native.Mathlib.Omega.{arith}
 use borrow.Author.Tests.{ltb-false}
 use lib.Dec.{eqb, ltb}
-use lib.ListN.{length, drop}
-use lib.Seq.{drop-drop}
+use lib.ListN.{length, length-drop}
 use Rattle.spec.specs.Choice.{pick, isEmpty}
 use Rattle.spec.specs.Padding.{Split, Prefix, split, refused, tenths, pastTenths, pastStar, prefixOf, padCount}
 use Rattle.spec.specs.Digits.{value, valueFrom, leading, trailing}
-use Rattle.spec.proofs.Tests.{pick-told}
+use Rattle.spec.specs.declared.Refusal.the-variants.{NoRoom, BadPadding}
+use Rattle.spec.proofs.Buffers.{not-nine}
+use Rattle.spec.proofs.Tests.{pick-all, pick-told}
 use Rattle.spec.proofs.DigitLaws.{value-few}
 use Rattle.spec.proofs.LeadingDigits.{leading-digits, trailing-drop}
 
@@ -66,3 +68,35 @@ delay-below cmd =
   where
     Small : Prefix → Type 0
     Small = Splits (λ (p : Split). p .delay < 100000)
+
+-- ---- the body is no longer than the command, and no refusal is for want of room
+
+abbrev pub Shortened : ℕ → Prefix → Type 0
+Shortened n (split p) = length (p .body) ≤ n
+Shortened n (refused r) = r ≡ NoRoom → ⊥
+
+trailing-short : (s : List ℕ) → length (trailing 10 s) ≤ length s
+trailing-short s = rw (trailing-drop, length-drop) (omega arith)
+
+tenths-short : (s : List ℕ) → length (pastTenths s) ≤ length s
+tenths-short [] = omega arith
+tenths-short (c ∷ s) =
+    pick-all (λ (l : List ℕ). length l ≤ suc (length s)) (isEmpty (tenths (c ∷ s))) (omega arith) (omega (arith, trailing-short s))
+
+star-short : (s : List ℕ) → length (pastStar s) ≤ length s
+star-short [] = omega arith
+star-short (c ∷ s) = pick-all (λ (l : List ℕ). length l ≤ suc (length s)) (eqb c 42) (omega arith) (omega arith)
+
+pub body-short : (cmd : List ℕ) → Shortened (length cmd) (prefixOf cmd)
+unfolding prefixOf
+body-short cmd =
+    let rest = trailing 10 cmd in
+    pick-all Short (isEmpty (leading 10 cmd)) (omega arith)
+    (pick-all Short (ltb 4 (length (leading 10 cmd))) bad
+    (pick-all Short (ltb 1 (length (tenths rest))) bad (omega (arith, star-short (pastTenths rest), tenths-short rest, trailing-short cmd))))
+  where
+    Short : Prefix → Type 0
+    Short = Shortened (length cmd)
+
+    bad : BadPadding ≡ NoRoom → ⊥
+    bad = not-nine BadPadding (omega arith)

@@ -1,6 +1,6 @@
 -- "Filling in a position": how each percent sequence is read, and what it does to the parameters. "For one sequence 10 is tested first,
 -- then 11, then 12": the reading refuses with 10, then a parameter is taken or 11, then its range is tested.
-use Prim.Native.Nat.{ℕ, _+_}
+use Prim.Native.Nat.{ℕ, _+_, _≤_}
 use mathlib.Core.List.{List, [], _∷_}
 use lib.Dec.{eqb, leb, ltb}
 use Rattle.spec.specs.Choice.{pick, both}
@@ -50,6 +50,15 @@ readByte Letter b = letter b
 readByte Added b = Whole (Byte b)
 readByte Threshold b = More (Addend b)
 readByte (Addend x) b = Whole (ChangeNext (AddAbove x b))
+
+-- No sequence that is read asks for more than three digits (proofs/OutputSizes).
+abbrev pub Narrow : Sequence → Type 0
+Narrow Percent = Unit
+Narrow (Decimal least) = least ≤ 3
+Narrow (Byte c) = Unit
+Narrow (ChangeEvery c) = Unit
+Narrow (ChangeNext c) = Unit
+Narrow Exchange = Unit
 
 -- ---- doing it to the parameters
 
