@@ -4,7 +4,8 @@ use Rattle.spec.specs.Refusals.{refusalNumber}
 use Rattle.spec.specs.Answers.{refusedReport}
 use Rattle.spec.specs.declared.Refusal.{Refusal}
 use Rattle.spec.specs.declared.Refusal.the-variants.{BadName, BadId, DatabaseTooLarge, UnknownName, LostLink, Malformed, Cycle, ChainTooLarge}
-use Rattle.spec.specs.declared.Refusal.the-variants.{NoRoom, UnknownSequence, TooFewParameters, OutOfRange, BadPadding, TooManyLines, PartialQuestion, BadEnds, InvalidState}
+use Rattle.spec.specs.declared.Refusal.the-variants.{NoRoom, UnknownSequence, TooFewParameters, OutOfRange, BadPadding}
+use Rattle.spec.specs.declared.Refusal.the-variants.{TooManyLines, PartialQuestion, BadEnds, InvalidState}
 use Rattle.c_results.specs.Results.{resultOf}
 
 pub refused-result : (r : Refusal) → refusalNumber r ≡ resultOf (refusedReport r)

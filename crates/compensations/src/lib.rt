@@ -64,7 +64,9 @@ fn append_for_row(
     at: usize,
 ) -> Appended
     requires { ⌜ at ≤ capacity ⌝ }
-    ensures { λ r. ⌜ BytesAppended (repeated count (compensation (now (back .entry)) (now (up .entry)) (OfRow row))) capacity (now (out .entry)) at r (now (out .exit)) ⌝ }
+    ensures { λ r.
+        ⌜ BytesAppended (repeated count (compensation (now (back .entry)) (now (up .entry)) (OfRow row))) capacity
+        (now (out .entry)) at r (now (out .exit)) ⌝ }
 {
     append_times(up, count, capacity, out, at)
 }
@@ -80,7 +82,9 @@ fn append_for_column(
     at: usize,
 ) -> Appended
     requires { ⌜ at ≤ capacity ⌝ }
-    ensures { λ r. ⌜ BytesAppended (repeated count (compensation (now (back .entry)) (now (up .entry)) (OfColumn column))) capacity (now (out .entry)) at r (now (out .exit)) ⌝ }
+    ensures { λ r.
+        ⌜ BytesAppended (repeated count (compensation (now (back .entry)) (now (up .entry)) (OfColumn column))) capacity
+        (now (out .entry)) at r (now (out .exit)) ⌝ }
 {
     if back.len() == 0 {
         return append_times(b"\x08", count, capacity, out, at);
@@ -108,7 +112,9 @@ fn append_compensations(
     at: usize,
 ) -> Appended
     requires { ⌜ at ≤ capacity ⌝ }
-    ensures { λ r. ⌜ BytesAppended (compensations (now (back .entry)) (now (up .entry)) (parametersOf ps)) capacity (now (out .entry)) at r (now (out .exit)) ⌝ }
+    ensures { λ r.
+        ⌜ BytesAppended (compensations (now (back .entry)) (now (up .entry)) (parametersOf ps)) capacity
+        (now (out .entry)) at r (now (out .exit)) ⌝ }
 {
     if owes_nothing(ps) {
         return Appended::Until(at);
@@ -177,7 +183,10 @@ pub fn fill_in(
     capacity: usize,
     out: &mut [u8],
 ) -> FilledIn
-    ensures { λ r. ⌜ BodyFilledIn (compensated (now (back .entry)) (now (up .entry)) (plainOf (now (body .entry)) (raisingFor (now (back .entry)) (now (up .entry))) (parametersOf first))) capacity (now (out .entry)) r (now (out .exit)) ⌝ }
+    ensures { λ r.
+        ⌜ BodyFilledIn (compensated (now (back .entry)) (now (up .entry))
+        (plainOf (now (body .entry)) (raisingFor (now (back .entry)) (now (up .entry))) (parametersOf first)))
+        capacity (now (out .entry)) r (now (out .exit)) ⌝ }
 {
     let end = fill_body(body, raising_for(back, up), first, out);
     match end {

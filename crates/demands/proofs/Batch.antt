@@ -139,7 +139,8 @@ batch-answers db name asked buffer n = by-ends (goodEnds db) refl
     Goal : Outcome Written → Type 0
     Goal o = o .answer ≡ Count n → (n ≡ length (questions asked)) × AnsweredAlone db name (questions asked) (cut 8 n (o .buffer))
 
-    by-length : goodEnds db ≡ true → goodName name ≡ true → tooLarge (db .bytes) ≡ false → (t : Bool) → Goal (pick t (put l (length asked / 4) buffer) (refusing PartialQuestion))
+    by-length : goodEnds db ≡ true → goodName name ≡ true → tooLarge (db .bytes) ≡ false → (t : Bool)
+        → Goal (pick t (put l (length asked / 4) buffer) (refusing PartialQuestion))
     by-length ends good small true h =
         let w = counted l buffer (length asked / 4) n h in
         let e : n ≡ length (questions asked) = sym (w .0) ∙ count-questions asked in

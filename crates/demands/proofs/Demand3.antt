@@ -295,8 +295,8 @@ string-answer id (terminal names fs) lent h = go (lookup id 3 fs) refl h
         ap (λ (o : Outcome Written). presented (o .answer)) (put-room (bytesOf (reading t)) (length (bytesOf (reading t))) lent (λ f. h (ap presented f)))
         ∙ ap Present (string-length id (reading t) (lookup-matches id 3 fs t e))
 
-pub question-answer : (k : Kind) (db : Files) (name id lent : List ℕ) → QuestionHasRoom (question k db name id lent) → question k db name id lent ≡ answerFor id k
-    (terminalFor db name id)
+pub question-answer : (k : Kind) (db : Files) (name id lent : List ℕ) → QuestionHasRoom (question k db name id lent)
+    → question k db name id lent ≡ answerFor id k (terminalFor db name id)
 unfolding flagAnswer numberAnswer stringOutcome
 question-answer Flag db name id lent h = refl
 question-answer Number db name id lent h = refl

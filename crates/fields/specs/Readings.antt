@@ -9,7 +9,8 @@ use Rattle.spec.specs.Choice.{pick, both}
 use Rattle.spec.specs.Refusals.{idBytes}
 use Rattle.spec.specs.Lines.{lineAt}
 use Rattle.spec.specs.Strings.{good, plain, decode}
-use Rattle.spec.specs.Fields.{split, goodNumber, numberValue, Reading, malformed, ignored, link, capability, cancel, flag, number, string, contentReading, namedReading, reading}
+use Rattle.spec.specs.Fields.{split, goodNumber, numberValue, contentReading, namedReading, reading}
+use Rattle.spec.specs.Fields.{Reading, malformed, ignored, link, capability, cancel, flag, number, string}
 use Rattle.field_bounds.specs.Answers.{fieldAt, Passed}
 use Rattle.fields.specs.declared.FieldRead.{FieldRead}
 use Rattle.fields.specs.declared.FieldRead.the-variants.{Malformed, Ignored, Link, Cancel, Flag, Number, String}

@@ -6,7 +6,8 @@ ghost use mathlib.Core.Bool.{true, false};
 ghost use mathlib.Core.Path.{_≡_};
 ghost use mathlib.Core.Logic.{_⊎_};
 ghost use lib.ListN.{length};
-ghost use Rattle.name_places.specs.Marks.{Separator, Alone, Ending, Stop, Stops, Spelled, Whole, Settled, AllSettled, Passed, markOf, Marked, Measured, pickOf};
+ghost use Rattle.name_places.specs.Marks.{Separator, Alone, Ending, Stop, Stops, Spelled, Whole, Settled, AllSettled, Passed};
+ghost use Rattle.name_places.specs.Marks.{markOf, Marked, Measured, pickOf};
 
 // The places of a part.
 const PLACES: u8 = 16;
@@ -238,7 +239,9 @@ fn first_hit(s: &[u8], at: usize, stop: usize, name: &[u8]) -> usize
 
 // The first hit of the 16 places from `at` on, or the place behind them. They are looked at where the database goes on far enough.
 pub fn hit_in_part(s: &[u8], at: usize, name: &[u8]) -> usize
-    ensures { λ r. ⌜ (0 < length (now (name .entry)) → at + 50 + length (now (name .entry)) ≤ length (now (s .entry)) → (r ≤ at + 16) × Passed (now (s .entry)) (now (name .entry)) at r) ⌝ }
+    ensures { λ r.
+        ⌜ (0 < length (now (name .entry)) → at + 50 + length (now (name .entry)) ≤ length (now (s .entry))
+        → (r ≤ at + 16) × Passed (now (s .entry)) (now (name .entry)) at r) ⌝ }
     ensures { λ r. ⌜ ((0 < length (now (name .entry)) → at + 50 + length (now (name .entry)) ≤ length (now (s .entry)) → ⊥) → r ≡ at) ⌝ }
 {
     let size = name.len();

@@ -161,7 +161,9 @@ fn do_sequence(
 // Where a plain byte or a percent sign is due: a run of plain bytes up to the next sign.
 fn plain(command: &[u8], g: Raising, ps: Places, out: &mut [u8], at: usize, depth: usize) -> Step
     requires { ⌜ plainBound (now command) (parametersOf ps) at < 2 ^ 64 ⌝ }
-    ensures { λ r. ⌜ StepTaken (now (command .entry)) g (plainOf (now (command .entry)) g (parametersOf ps)) (now (out .entry)) at (plainBound (now (command .entry)) (parametersOf ps) at) r (now (out .exit)) ⌝ }
+    ensures { λ r.
+        ⌜ StepTaken (now (command .entry)) g (plainOf (now (command .entry)) g (parametersOf ps)) (now (out .entry)) at
+        (plainBound (now (command .entry)) (parametersOf ps) at) r (now (out .exit)) ⌝ }
 {
     let mut i = 0;
     while i < command.len() {
@@ -186,7 +188,9 @@ fn percent(
     depth: usize,
 ) -> Step
     requires { ⌜ percentBound (now command) (parametersOf first) start < 2 ^ 64 ⌝ }
-    ensures { λ r. ⌜ StepTaken (now (command .entry)) g (percentOf (now (command .entry)) Letter g (parametersOf first)) (now (out .entry)) start (percentBound (now (command .entry)) (parametersOf first) start) r (now (out .exit)) ⌝ }
+    ensures { λ r.
+        ⌜ StepTaken (now (command .entry)) g (percentOf (now (command .entry)) Letter g (parametersOf first)) (now (out .entry)) start
+        (percentBound (now (command .entry)) (parametersOf first) start) r (now (out .exit)) ⌝ }
 {
     let mut i = 0;
     let mut at = start;

@@ -9,7 +9,8 @@ ghost use mathlib.Core.Path.{_≡_};
 ghost use lib.ListN.{length};
 ghost use Rattle.spec.specs.Choice.{between};
 ghost use Rattle.spec.specs.Lines.{textAt};
-ghost use Rattle.removal_notes.specs.Notes.{behind, positionAt, positionOf, textFrom, placeOf, shownByte, shownBytes, shown, placeText, note, Stands, Put};
+ghost use Rattle.removal_notes.specs.Notes.{behind, positionAt, positionOf, textFrom, placeOf, Stands};
+ghost use Rattle.removal_notes.specs.Notes.{shownByte, shownBytes, shown, placeText, note, Put};
 
 // A line and a column of a file, from 1.
 pub struct Position {
@@ -261,7 +262,9 @@ pub fn put_note(
     out: &mut [u8],
 ) -> usize
     requires { ⌜ (length (now path) ≤ 4096) × (length (now reason) ≤ 100) ⌝ }
-    ensures { λ r. ⌜ Put (note (now (path .entry)) p (now (reason .entry)) (shown count (textAt (now (db .entry)) from))) (now (out .entry)) 0 (now (out .exit)) r
+    ensures { λ r.
+        ⌜ Put (note (now (path .entry)) p (now (reason .entry)) (shown count (textAt (now (db .entry)) from)))
+        (now (out .entry)) 0 (now (out .exit)) r
         × (r ≤ 4500) ⌝ }
 {
     let at = put_place(path, p, out);

@@ -44,7 +44,8 @@ fresh-kept : (p : ℕ) (passed ks : List Link) → Fresh p ks → reasonAt (remo
 unfolding removedLinks reasonAt
 fresh-kept p passed [] f = refl
 fresh-kept p passed (k ∷ ks) f =
-    go (linkReason (passed ++ k ∷ ks) (k .at) (k .to)) (eqb (linkReason (passed ++ k ∷ ks) (k .at) (k .to)) 0) (fresh-kept p (passed ++ k ∷ []) ks (f .1)) (fresh-kept p passed ks (f .1))
+    let reason = linkReason (passed ++ k ∷ ks) (k .at) (k .to) in
+    go reason (eqb reason 0) (fresh-kept p (passed ++ k ∷ []) ks (f .1)) (fresh-kept p passed ks (f .1))
   where
     go : (reason : ℕ) (x : Bool) → reasonAt (removedLinks (passed ++ k ∷ []) ks) p ≡ 0 → reasonAt (removedLinks passed ks) p ≡ 0
         → reasonAt (pick x (removedLinks (passed ++ k ∷ []) ks) (record { at = k .at; reason = reason } ∷ removedLinks passed ks)) p ≡ 0
@@ -69,19 +70,24 @@ starts-above : (a : ℕ) (ls : List Line) → Rising a ls → (i : ℕ) → i < 
 unfolding linkStarts
 starts-above a [] r i h = absurd (omega arith)
 starts-above a (l ∷ ls) r i h =
-    above-start a (l .start) (lineLink (l .text)) (linkStarts ls) (r .0) (starts-above a ls (rising-from a (suc (l .start)) ls (omega (arith, r .0)) (r .1))) i h
+    above-start a (l .start) (lineLink (l .text)) (linkStarts ls) (r .0)
+    (starts-above a ls (rising-from a (suc (l .start)) ls (omega (arith, r .0)) (r .1))) i h
 
 -- The first line has the first link, or none.
 first-start : (l : Line) (ls : List Line) → (linkStarts (left (l ∷ ls)) ≡ l .start ∷ linkStarts (left ls)) ⊎ (linkStarts (left (l ∷ ls)) ≡ linkStarts (left ls))
 unfolding left
 first-start l ls = go (isDropped (l .text))
   where
-    verdict : (v : Verdict) → (startOf (l .start) v (linkStarts (left ls)) ≡ l .start ∷ linkStarts (left ls)) ⊎ (startOf (l .start) v (linkStarts (left ls)) ≡ linkStarts (left ls))
+    verdict : (v : Verdict)
+        → (startOf (l .start) v (linkStarts (left ls)) ≡ l .start ∷ linkStarts (left ls))
+        ⊎ (startOf (l .start) v (linkStarts (left ls)) ≡ linkStarts (left ls))
     verdict malformedLine = unfold startOf in inr refl
     verdict noLink = unfold startOf in inr refl
     verdict (linkTo n) = unfold startOf in inl refl
 
-    go : (x : Bool) → (linkStarts (pick x (left ls) (l ∷ left ls)) ≡ l .start ∷ linkStarts (left ls)) ⊎ (linkStarts (pick x (left ls) (l ∷ left ls)) ≡ linkStarts (left ls))
+    go : (x : Bool)
+        → (linkStarts (pick x (left ls) (l ∷ left ls)) ≡ l .start ∷ linkStarts (left ls))
+        ⊎ (linkStarts (pick x (left ls) (l ∷ left ls)) ≡ linkStarts (left ls))
     go true = inr refl
     go false = unfold linkStarts in verdict (lineLink (l .text))
 
@@ -134,13 +140,17 @@ module _ (db ats reasons : List ℕ) (judged : Judged db ats reasons) (at k : �
     later i g h =
         let ls = laterLines (textAt db at) in
         let there : k + (i - k) ≡ i = omega arith in
-        let same : getD ats i 0 ≡ getD (linkStarts (left ls)) (i - k) 0 = ap (λ (j : ℕ). getD ats j 0) (sym there) ∙ sym (getD-drop k ats (i - k) 0) ∙ ap (λ (l : List ℕ). getD l (i - k) 0) e in
+        let same : getD ats i 0 ≡ getD (linkStarts (left ls)) (i - k) 0 =
+        ap (λ (j : ℕ). getD ats j 0) (sym there) ∙ sym (getD-drop k ats (i - k) 0) ∙ ap (λ (l : List ℕ). getD l (i - k) 0) e in
         let inside : i - k < length (linkStarts (left ls)) = omega (arith, length-drop k ats, ap length e) in
         omega (arith, same, starts-above (suc at) (left ls) (rising-left (suc at) ls (rising-after db at)) (i - k) inside)
 
     unlinked : (r : LineReason) → ReasonFound ats reasons k at r → Reason r
     unlinked r (inl f) = let w = later k (omega arith) (f .0) in absurd (omega (arith, w, f .1))
-    unlinked r (inr f) = (f .1 ∙ sym (others-kept db at absent), record { coming = rw (f .2) e; passed = rw (f .2) (λ i h. let p = cursor .passed i h in omega (arith, p)) })
+    unlinked r (inr f) = (
+      f .1 ∙ sym (others-kept db at absent),
+      record { coming = rw (f .2) e; passed = rw (f .2) (λ i h. let p = cursor .passed i h in omega (arith, p)) },
+    )
       where
         not-listed : Absent at ats
         not-listed i h q = go (leb k i) refl
@@ -153,4 +163,6 @@ module _ (db ats reasons : List ℕ) (judged : Judged db ats reasons) (at k : �
         absent = rw (judged .starts) at not-listed
 
   pub reason-right : (r : LineReason) → ReasonFound ats reasons k at r → Reason r
-  reason-right r f = ⊎-elim (λ e. linked r (cursor .coming ∙ e) f) (λ e. unlinked (cursor .coming ∙ e) r f) (first-start (record { start = at; text = lineText (textAt db at) }) (laterLines (textAt db at)))
+  reason-right r f =
+      ⊎-elim (λ e. linked r (cursor .coming ∙ e) f) (λ e. unlinked (cursor .coming ∙ e) r f)
+      (first-start (record { start = at; text = lineText (textAt db at) }) (laterLines (textAt db at)))

@@ -246,8 +246,11 @@ fn send_filled(
     pad: u8,
     out: &mut [u8],
 ) -> Written
-    ensures { λ r. ⌜ (r ≡ delivered (withPads (filledFor (now (body .entry)) row column (now (back .entry)) (now (up .entry))) pads pad) (now (out .entry)) .answer)
-        × (now (out .exit) ≡ delivered (withPads (filledFor (now (body .entry)) row column (now (back .entry)) (now (up .entry))) pads pad) (now (out .entry)) .buffer) ⌝ }
+    ensures { λ r.
+        ⌜ (r
+        ≡ delivered (withPads (filledFor (now (body .entry)) row column (now (back .entry)) (now (up .entry))) pads pad) (now (out .entry)) .answer)
+        × (now (out .exit)
+        ≡ delivered (withPads (filledFor (now (body .entry)) row column (now (back .entry)) (now (up .entry))) pads pad) (now (out .entry)) .buffer) ⌝ }
 {
     let capacity = out.len();
     let first = both_unused(row, column);

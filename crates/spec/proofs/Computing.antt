@@ -115,7 +115,8 @@ unfolding holds upto past laterPieces same among valueFrom areDigits leading tra
     grow split fieldsOf withColons size lineSize numberBase numberValue goodNumber stringReading contentReading linkReading namedReading reading
     isIgnoredField allIgnored judged judge verdict visited linkTarget entered follow walk placed texts joinedFields firstNames described resolve matches lookup
     canWin hides hidden winningAfter winning valueOf bytesOf put terminalOf terminalFor hitAnswer answerFor flagAnswer numberAnswer decodedOutcome
-    stringFor stringOutcome shown showAnswer recordOf records listFor listOutcome flatText flatFor flatOutcome batchAnswer batchAnswers batchOutcome lineNames namesIn fileNames
+    stringFor stringOutcome shown showAnswer recordOf records listFor listOutcome flatText flatFor flatOutcome batchAnswer batchAnswers batchOutcome
+    lineNames namesIn fileNames
     allNames counted compared searchAnswer collect matchedAfter namesByte lineByte lineEnds joinedByte unheldByte oneByte fed finished openedFinder openRefusal
     feedTurn feedAll endTurn finderOutcome linesOf ownBytes isDropped left pieces
     fieldReason isLink firstLink linkOf fieldPieces lineLink withLink linksAmong leads comesBack linkReason removedLinks reasonAt linkRemovals partsFrom

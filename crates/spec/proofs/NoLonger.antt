@@ -111,7 +111,8 @@ closed-length u = go (endsInBackslash u)
     go false = length-append u (10 ∷ [])
 
 -- closed, the fields that are kept are at most two bytes longer than all of them
-pub kept-closed-short : (linked : Bool) (r place : ℕ) (ps : List (List ℕ)) → length (closed (keptBytes (partsFrom linked r place ps))) ≤ length (flattened ps) + 2
+pub kept-closed-short : (linked : Bool) (r place : ℕ) (ps : List (List ℕ))
+    → length (closed (keptBytes (partsFrom linked r place ps))) ≤ length (flattened ps) + 2
 kept-closed-short linked r place ps =
     let k = keptBytes (partsFrom linked r place ps) in
     omega (arith, closed-length k, added-two k, kept-short linked r place ps)

@@ -26,8 +26,10 @@ module _ (db text records : List ℕ) (bytes count : ℕ) where
       (λ t e.
       let b : length (mended db .text) ≡ bytes = cc in
       let n : length (mended db .records) ≡ count = cc in
-      let h = both-true _ _ t in
-      (omega (arith, leb-true (length (mended db .text)) (length text) (h .0)), omega (arith, leb-true (length flat) (length records) (h .1), mended-sixteen db)))
+      let h = both-true _ _ t in (
+        omega (arith, leb-true (length (mended db .text)) (length text) (h .0)),
+        omega (arith, leb-true (length flat) (length records) (h .1), mended-sixteen db),
+      ))
       (λ t e. let z : _≡_ {A = ℕ} 0 1 = cc in absurd (omega arith))
 
   pub counts-fit : Fits (repairOutcome db text records)

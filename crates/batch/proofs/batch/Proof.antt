@@ -35,7 +35,9 @@ returns-4 : tie.Need-returns-4
 returns-4 c = question-partial _ _ _ _ (ends (c .before .before .before .before)) (good (c .before .before)) (omega arith) (c .if4 .taken)
 
 returns-5 : tie.Need-returns-5
-returns-5 c = room-missing _ _ _ _ (ends (c .before .before .before .before .before)) (good (c .before .before .before)) (omega arith) (omega arith) (c .if5 .taken)
+returns-5 c =
+    room-missing _ _ _ _ (ends (c .before .before .before .before .before)) (good (c .before .before .before)) (omega arith) (omega arith)
+    (c .if5 .taken)
 
 answer-all-requires : tie.Need-answer-all-requires
 answer-all-requires c κs = ((ends (c .before .before .before .before .before .before), good (c .before .before .before .before), omega arith), omega arith)

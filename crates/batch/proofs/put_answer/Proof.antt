@@ -41,7 +41,8 @@ same-length-3 c = search needs
 
 returns-3 : tie.Need-returns-3
 returns-3 c =
-    rw (c .before .before .before .before .before .before .answer2 .given .1, ← c .before .before .before .number .ensures) (c .before .before .put-parts3 .ensures)
+    rw (c .before .before .before .before .before .before .answer2 .given .1, ← c .before .before .before .number .ensures)
+    (c .before .before .put-parts3 .ensures)
 
 pub put-answer-spec : {M : Type 1} → statement M
 put-answer-spec =

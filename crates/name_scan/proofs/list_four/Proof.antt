@@ -80,22 +80,21 @@ add-note-3 c = search needs
 
 note-requires-4 : tie.Need-note-requires-4
 note-requires-4 c κs =
-    let few = c .before .before .before .before .before .before .before .before .before .before .before .before .before .before .before .before .before .before .before .pre .1 .1 .1 .few in (
+    let two = c .before .before .before .before .before .before .before in
+    let one = two .before .before .before .before in
+    let tried = one .before .before in
+    let start = tried .before .before .before .before .before .before in
+    let few = start .pre .1 .1 .1 .few in (
       omega arith,
       omega (
         arith,
-        c .before .before .before .before .before .before .before .before .before .before .before .before .before .before .before .before .before .before .before .pre .1 .1 .0,
-        c .before .before .before .before .before .before .before .before .before .before .before .note .ensures .0,
-        c .before .before .before .before .before .before .before .note2 .ensures .0,
+        start .pre .1 .1 .0,
+        one .note .ensures .0,
+        two .note2 .ensures .0,
         c .before .before .before .note3 .ensures .0,
-        counted-most
-            (c .before .before .before .before .before .before .before .before .before .before .before .before .before .before .before .before .any-start .result)
-            (c .before .before .before .before .before .before .before .before .before .before .before .before .before .before .before .before .before .before .before .args .count),
-        counted-most (c .before .before .before .before .before .before .before .before .before .before .before .before .before .before .before .any-start2 .result)
-            (c .before .before .before .before .before .before .before .before .before .before .before .note .result),
-        counted-most
-            (c .before .before .before .before .before .before .before .before .before .before .before .before .before .before .any-start3 .result)
-            (c .before .before .before .before .before .before .before .note2 .result),
+        counted-most (tried .before .before .before .any-start .result) (start .args .count),
+        counted-most (tried .before .before .any-start2 .result) (one .note .result),
+        counted-most (tried .before .any-start3 .result) (two .note2 .result),
       ),
     )
 
@@ -104,26 +103,30 @@ same-length c = search needs
 
 returns : tie.Need-returns
 returns c =
-    let start = c .before .before .before .before .before .before .before .before .before .before .before .before .before .before .before .before .before .before .before .before .before .before in
+    let start = c .before .before .before .before .before .before .before .before .before .before .before .before .before .before .before .before
+    .before .before .before .before .before .before in
     let l = start .pre .1 .1 .0 in
     let x = start .pre .1 .1 .1 in
     let one = noted _ x (let few = x .few in omega arith)
-    (λ e. each-in (c .before .before .before .before .before .before .before .before .before .before .before .before .before .before .before .before .before .before .before .any-start .ensures
-    e) (omega arith) (omega arith))
+    (λ e. each-in (c .before .before .before .before .before .before .before .before .before .before .before .before .before .before .before
+    .before .before .before .before .any-start .ensures e) (omega arith) (omega arith))
     (c .before .before .before .before .before .before .before .before .before .before .before .before .before .before .note .ensures .0)
     (c .before .before .before .before .before .before .before .before .before .before .before .before .before .before .note .ensures .1)
     (omega arith) in
     let two = noted _ one (let few = one .few in omega arith)
-    (λ e. each-in (c .before .before .before .before .before .before .before .before .before .before .before .before .before .before .before .before .before .before .any-start2 .ensures
-    e) (omega arith) (omega arith)) (c .before .before .before .before .before .before .before .before .before .before .note2 .ensures .0)
+    (λ e. each-in (c .before .before .before .before .before .before .before .before .before .before .before .before .before .before .before
+    .before .before .before .any-start2 .ensures e) (omega arith) (omega arith))
+    (c .before .before .before .before .before .before .before .before .before .before .note2 .ensures .0)
     (c .before .before .before .before .before .before .before .before .before .before .note2 .ensures .1) (omega arith) in
     let three = noted _ two (let few = two .few in omega arith)
-    (λ e. each-in (c .before .before .before .before .before .before .before .before .before .before .before .before .before .before .before .before .before .any-start3 .ensures
-    e) (omega arith) (omega arith)) (c .before .before .before .before .before .before .note3 .ensures .0)
+    (λ e. each-in (c .before .before .before .before .before .before .before .before .before .before .before .before .before .before .before
+    .before .before .any-start3 .ensures e) (omega arith) (omega arith))
+    (c .before .before .before .before .before .before .note3 .ensures .0)
     (c .before .before .before .before .before .before .note3 .ensures .1) (omega arith) in
     let four = noted _ three (let few = three .few in omega arith)
-    (λ e. each-in (c .before .before .before .before .before .before .before .before .before .before .before .before .before .before .before .before .any-start4 .ensures
-    e) (omega arith) (omega arith)) (c .before .before .note4 .ensures .0) (c .before .before .note4 .ensures .1) (omega arith) in
+    (λ e. each-in (c .before .before .before .before .before .before .before .before .before .before .before .before .before .before .before
+    .before .any-start4 .ensures e) (omega arith) (omega arith))
+    (c .before .before .note4 .ensures .0) (c .before .before .note4 .ensures .1) (omega arith) in
     let all : start .args .k + 1 + 1 + 1 + 1 ≡ start .args .k + 4 = omega arith in
     rw all at four
 

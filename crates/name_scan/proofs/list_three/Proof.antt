@@ -57,18 +57,17 @@ add-note-2 c = search needs
 
 note-requires-3 : tie.Need-note-requires-3
 note-requires-3 c κs =
-    let few = c .before .before .before .before .before .before .before .before .before .before .before .before .before .before .before .pre .1 .1 .1 .1 .1 .few in (
+    let one = c .before .before .before .before .before .before .before in
+    let start = one .before .before .before .before .before .before .before .before in
+    let few = start .pre .1 .1 .1 .1 .1 .few in (
       omega arith,
       omega (
         arith,
-        c .before .before .before .before .before .before .before .before .before .before .before .before .before .before .before .pre .1 .1 .1 .1 .0,
-        c .before .before .before .before .before .before .before .note .ensures .0,
+        start .pre .1 .1 .1 .1 .0,
+        one .note .ensures .0,
         c .before .before .before .note2 .ensures .0,
-        counted-most
-            (c .before .before .before .before .before .before .before .before .before .before .before .any-fit-for .result)
-            (c .before .before .before .before .before .before .before .before .before .before .before .before .before .before .before .args .count),
-        counted-most (c .before .before .before .before .before .before .before .before .before .before .any-fit-for2 .result)
-            (c .before .before .before .before .before .before .before .note .result),
+        counted-most (one .before .before .before .before .any-fit-for .result) (start .args .count),
+        counted-most (one .before .before .before .any-fit-for2 .result) (one .note .result),
       ),
     )
 
@@ -77,7 +76,8 @@ same-length c = search needs
 
 returns : tie.Need-returns
 returns c =
-    let start = c .before .before .before .before .before .before .before .before .before .before .before .before .before .before .before .before .before .before in
+    let start = c .before .before .before .before .before .before .before .before .before .before .before .before .before .before .before .before
+    .before .before in
     let l = start .pre .1 .1 .1 .1 .0 in
     let x = start .pre .1 .1 .1 .1 .1 in
     let one = noted _ x (let few = x .few in omega arith)

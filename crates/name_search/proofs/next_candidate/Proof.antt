@@ -59,8 +59,9 @@ same-length-2 c = search needs
 returns-4 : tie.Need-returns-4
 returns-4 c =
     let p = c .before .before .before .before .before .before .next-hit .ensures .0 (omega arith) (omega arith) in
-    passed-line (omega arith) (c .before .before .before .before .before .before .before .before .before .before .before .before .before .before .before .before .pre .1
-    (omega arith)) (p .settled) _ (omega arith) (c .line-of .ensures)
+    passed-line (omega arith)
+    (c .before .before .before .before .before .before .before .before .before .before .before .before .before .before .before .before .pre .1 (omega arith))
+    (p .settled) _ (omega arith) (c .line-of .ensures)
 
 same-length-3 : tie.Need-same-length-3
 same-length-3 c = search needs
