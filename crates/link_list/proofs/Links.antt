@@ -1,6 +1,6 @@
 -- The first link of a line's fields, field by field.
 -- Assumes nothing.
-use Prim.Native.Nat.{ℕ}
+use Prim.Native.Nat.{ℕ, _+_}
 use mathlib.Core.Path.{_≡_, refl, _∙_, ap, sym}
 use mathlib.Core.Bool.{Bool, true, false, not}
 use mathlib.Core.List.{List, [], _∷_}
@@ -18,16 +18,18 @@ use Rattle.spec.specs.Fields.{split, fieldsOf, Reading, malformed, ignored, lin
 use Rattle.spec.specs.Repair.{pieces, fieldPieces, isLink, firstLink, linkOf, lineLink}
 use Rattle.spec.proofs.Tests.{clash, both-true, not-is-true}
 use Rattle.spec.proofs.KeptFields.{cutTexts, split-pieced, pieces-pieced, pieces-flat}
+use Rattle.field_bounds.proofs.Parts.{part, part-at, part-fields}
 use Rattle.field_bounds.proofs.Pieces.{no-fields}
 use Rattle.spec.proofs.Judging.{reading-good}
-use Rattle.field_bounds.specs.Answers.{fieldAt}
+use Rattle.field_bounds.specs.Answers.{fieldAt, NamesPassed}
+use Rattle.field_bounds.specs.declared.AfterNames.the-variants.{At as NamesTo}
 use Rattle.fields.specs.Readings.{Reads}
 use Rattle.fields.specs.declared.FieldRead.{FieldRead}
 use Rattle.fields.proofs.FieldRead.{the-type}
 use Rattle.fields.specs.declared.FieldRead.the-variants.{Malformed, Ignored, Link, Cancel, Flag, Number, String}
 use Rattle.link_targets.specs.Targets.{nameAt}
-use Rattle.spec.specs.declared.Found.{Found}
-use Rattle.link_list.specs.Listing.{linkIn, Linked}
+use Rattle.spec.specs.declared.Found.the-variants.{At, Nothing}
+use Rattle.link_list.specs.Listing.{linkIn, FirstLinked, Linked}
 
 -- ---- a link's name has no bar
 
@@ -87,9 +89,9 @@ module _ (db : List ℕ) (at : ℕ) (fs : List (List ℕ)) (first : split (lineA
   unfolding linkIn
   in-on n = rw first (passes-by (reading (fieldAt db at)) (linkIn fs) n)
 
-pub in-none : (l : List ℕ) → split l ≡ [] → linkIn (split l) ≡ noLink
+pub in-none : (fs : List (List ℕ)) → fs ≡ [] → linkIn fs ≡ noLink
 unfolding linkIn
-in-none l e = rw e
+in-none fs e = rw e
 
 -- ---- the fields as they are written, and as they are read
 
@@ -107,12 +109,12 @@ pub ignored-line : (l : List ℕ) → isIgnored l ≡ true → lineLink l ≡ no
 unfolding lineLink
 ignored-line l e = rw e
 
-pub read-line : (l m : List ℕ) → isIgnored l ≡ false → past 58 l ≡ m → lineLink l ≡ linkIn (split m)
-unfolding lineLink fieldPieces
-read-line l m e h = rw (e, h) (pieces-link m)
+read-line : (l : List ℕ) → isIgnored l ≡ false → lineLink l ≡ linkIn (fieldsOf l)
+unfolding lineLink fieldPieces fieldsOf
+read-line l e = rw e (pieces-link (past 58 l))
 
 pub dropped-line : (l : List ℕ) → isIgnored l ≡ false → holds 58 l ≡ false → lineLink l ≡ noLink
-dropped-line l e h = read-line l (past 58 l) e refl ∙ in-none (past 58 l) (unfold fieldsOf in no-fields l h)
+dropped-line l e h = read-line l e ∙ in-none (fieldsOf l) (no-fields l h)
 
 pub linked-line : (l n : List ℕ) → lineLink l ≡ linkTo n → isIgnored l ≡ false
 linked-line l n e = go (isIgnored l) refl
@@ -130,5 +132,15 @@ pub seen : (db : List ℕ) (at : ℕ) (r x : Bool) → r ≡ isIgnored (lineText
 unfolding lineAt
 seen db at r x e f = sym e ∙ f
 
-pub linked-as : (db : List ℕ) (v w : Verdict) (r : Found) → v ≡ w → Linked db w r → Linked db v r
-linked-as db v w r e h = rw e h
+-- ---- a line by the part of the database that starts after its names
+
+module _ (db : List ℕ) (at a n : ℕ) (p : NamesPassed db at (NamesTo a n)) (e : isIgnored (lineAt db at) ≡ false) where
+  line-fields : lineLink (lineAt db at) ≡ linkIn (split (lineAt (part db a) 0))
+  line-fields = read-line (lineAt db at) e ∙ ap linkIn (sym (part-fields db at a n p))
+
+  pub part-linked : (name : ℕ) → FirstLinked (part db a) (At name) → Linked db (lineLink (lineAt db at)) (At (a + name))
+  unfolding nameAt lineAt
+  part-linked name h = line-fields ∙ h .0 ∙ ap (λ (l : List ℕ). linkTo (firstName l)) (part-at db at a n p name)
+
+  pub part-none : FirstLinked (part db a) Nothing → Linked db (lineLink (lineAt db at)) Nothing
+  part-none h = line-fields ∙ h

@@ -4,8 +4,8 @@ use mathlib.Core.Path.{_≡_}
 use mathlib.Core.Bool.{true, false}
 use mathlib.Core.List.{List, [], _∷_}
 use lib.ListN.{length, take, drop, set, getD}
-use Rattle.spec.specs.Lines.{Line}
-use Rattle.spec.specs.Fields.{Verdict, malformedLine, noLink, linkTo, reading}
+use Rattle.spec.specs.Lines.{Line, lineAt}
+use Rattle.spec.specs.Fields.{split, Verdict, malformedLine, noLink, linkTo, reading}
 use Rattle.spec.specs.Repair.{linesOf, left, lineLink, firstLink, reasonAt, linkRemovals, tooManyLines}
 use Rattle.spec.specs.declared.Found.{Found}
 use Rattle.spec.specs.declared.Found.the-variants.{At, Nothing}
@@ -41,7 +41,12 @@ unfoldable pub linkIn : List (List ℕ) → Verdict
 linkIn [] = noLink
 linkIn (f ∷ fs) = firstLink (reading f) (linkIn fs)
 
--- `first_link`: the first link of the fields from a place on; `line_link`: that of a line.
+-- `first_link`: the first link of the fields of the part that starts after a line's names, with the place of its name.
+abbrev pub FirstLinked : List ℕ → Found → Type 0
+FirstLinked s (At p) = (linkIn (split (lineAt s 0)) ≡ linkTo (nameAt s p)) × (p ≤ length s)
+FirstLinked s Nothing = linkIn (split (lineAt s 0)) ≡ noLink
+
+-- `line_link`: the link of a line, with the place of its name in the database.
 abbrev pub Linked : List ℕ → Verdict → Found → Type 0
 Linked db v (At p) = v ≡ linkTo (nameAt db p)
 Linked db v Nothing = v ≡ noLink

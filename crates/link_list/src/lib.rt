@@ -17,11 +17,10 @@ ghost use mathlib.Core.Path.{_≡_};
 ghost use lib.ListN.{length, set};
 ghost use Rattle.spec.specs.Choice.{pick};
 ghost use Rattle.spec.specs.Lines.{textAt, lineText, lineAt, isIgnored};
-ghost use Rattle.spec.specs.Fields.{split};
 ghost use Rattle.spec.specs.Repair.{linesOf, left, lineLink};
 ghost use Rattle.link_targets.specs.Targets.{Targets};
 ghost use Rattle.link_rings.specs.Rings.{Nexts};
-ghost use Rattle.link_list.specs.Listing.{linkStarts, linkNames, namesAt, linkIn, Linked, PutLink, LinksListed, Reasons};
+ghost use Rattle.link_list.specs.Listing.{linkStarts, linkNames, namesAt, FirstLinked, Linked, PutLink, LinksListed, Reasons};
 
 // So many links; or the database has too many lines.
 pub enum Listed {
@@ -29,13 +28,13 @@ pub enum Listed {
     TooMany,
 }
 
-// The first link of the fields from a place on: where its name stands.
-fn first_link(db: &[u8], at: usize) -> Found
-    ensures { λ r. ⌜ Linked (now (db .entry)) (linkIn (split (lineAt (now (db .entry)) at))) r ⌝ }
+// The first link of the fields of the first line of `s`, a part of the database that starts after a line's names: where its name stands.
+fn first_link(s: &[u8]) -> Found
+    ensures { λ r. ⌜ FirstLinked (now (s .entry)) r ⌝ }
 {
-    let mut i = at;
+    let mut i = 0;
     loop {
-        let NextField::Field(read, _, next) = next_field(db, i) else {
+        let NextField::Field(read, _, next) = next_field(s, i) else {
             return Found::Nothing;
         };
         match read {
@@ -45,7 +44,7 @@ fn first_link(db: &[u8], at: usize) -> Found
     }
 }
 
-// The link of the line at a place, if it has one after the second pass.
+// The link of the line at a place, if it has one after the second pass: by the part of the database that starts after its names.
 fn line_link(db: &[u8], at: usize) -> Found
     ensures { λ r. ⌜ Linked (now (db .entry)) (lineLink (lineAt (now (db .entry)) at)) r ⌝ }
 {
@@ -55,7 +54,10 @@ fn line_link(db: &[u8], at: usize) -> Found
     let AfterNames::At(fields, _) = after_names(db, at) else {
         return Found::Nothing;
     };
-    first_link(db, fields)
+    match first_link(&db[fields..]) {
+        Found::At(name) => Found::At(fields + name),
+        Found::Nothing => Found::Nothing,
+    }
 }
 
 // One for a line that is not ignored.

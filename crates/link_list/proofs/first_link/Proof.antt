@@ -13,10 +13,10 @@ use Rattle.link_list.proofs.first_link.Statement.{statement}
 use Rattle.link_list.proofs.first_link.Tie as tie
 
 abbrev Inv-loop : tie.InvT-loop
-Inv-loop db at i₀ i = linkIn (split (lineAt db at)) ≡ linkIn (split (lineAt db i))
+Inv-loop s i₀ i = linkIn (split (lineAt s 0)) ≡ linkIn (split (lineAt s i))
 
 abbrev μ-loop : tie.MeasureT-loop
-μ-loop db at i₀ i = length db - i
+μ-loop s i₀ i = length s - i
 
 loop-holds : tie.Need-loop-holds Inv-loop μ-loop
 loop-holds c = refl
@@ -42,7 +42,7 @@ returns-2 : tie.Need-returns-2 Inv-loop μ-loop
 returns-2 c =
     let p = rw (c .before .before .before .before .read .given .1) at (c .before .before .before .before .before .before .next-field .ensures) in
     let q = rw (c .before .read2 .given .1) at (p .1) in
-    c .before .before .before .before .before .before .before .loop .inv ∙ in-here _ _ _ (p .0) _ (q .0)
+    (c .before .before .before .before .before .before .before .loop .inv ∙ in-here _ _ _ (p .0) _ (q .0), q .1)
 
 loop-less : tie.Need-loop-less Inv-loop μ-loop
 loop-less c =
