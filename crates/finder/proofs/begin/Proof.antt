@@ -5,7 +5,7 @@ use Prim.Native.Nat.{ℕ}
 use lib.ListN.{length}
 use Rattle.spec.specs.Finder.{begun}
 use borrow.Author.Needs.{needs}
-use Rattle.finder.proofs.Steps as Steps
+use Rattle.finder.proofs.Calls as Calls
 use Rattle.finder.proofs.begin.Statement.{statement}
 use Rattle.finder.proofs.begin.Tie as tie
 
@@ -22,7 +22,7 @@ returns : tie.Need-returns
 returns c =
     let z = c .before .before .before .before in
     let a = z .args in
-    ap (λ (l : List ℕ). begun (length (a .name .now)) l (a .ended)) (Steps.named (a .name .now) _ (z .pre) (c .before .put-bytes .ensures))
+    ap (λ (l : List ℕ). begun (length (a .name .now)) l (a .ended)) (Calls.named (a .name .now) _ (z .pre) (c .before .put-bytes .ensures))
 
 pub begin-spec : {M : Type 1} → statement M
 begin-spec = tie.close (tie.spec slice-aggregate-put-bytes put-bytes-requires cast-t9 returns)

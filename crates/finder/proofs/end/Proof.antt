@@ -4,7 +4,7 @@ use Prim.Native.Nat.{ℕ}
 use native.Mathlib.Omega.{arith}
 use Rattle.spec.specs.Finder.{turn}
 use borrow.Author.Needs.{needs}
-use Rattle.finder.proofs.Steps as Steps
+use Rattle.finder.proofs.Calls as Calls
 use Rattle.finder.proofs.end.Statement.{statement}
 use Rattle.finder.proofs.end.Tie as tie
 
@@ -17,7 +17,7 @@ cast-t11 c = search needs
 returns : tie.Need-returns
 returns c =
     let a = c .before .before .before .before .args in
-    ap (λ (n : ℕ). turn n (a .f) (a .text .now)) (c .number .ensures) ∙ sym (Steps.end-refused (a .f) (a .text .now) (c .before .if1 .taken))
+    ap (λ (n : ℕ). turn n (a .f) (a .text .now)) (c .number .ensures) ∙ sym (Calls.end-refused (a .f) (a .text .now) (c .before .if1 .taken))
 
 slice-aggregate-finish-named : tie.Need-slice-aggregate-finish-named
 slice-aggregate-finish-named c = search needs
@@ -35,7 +35,7 @@ returns-2 : tie.Need-returns-2
 returns-2 c =
     let w = c .before .before .before .before .before .before .before .before in
     let a = w .before .before .before .args in
-    sym (Steps.end-accepted (a .f) (a .text .now) (w .if1 .left) _ (c .before .before .finish-named .ensures))
+    sym (Calls.end-accepted (a .f) (a .text .now) (w .if1 .left) _ (c .before .before .finish-named .ensures))
 
 pub end-spec : {M : Type 1} → statement M
 end-spec =

@@ -4,7 +4,7 @@ use Prim.Native.Nat.{ℕ}
 use native.Mathlib.Omega.{arith}
 use Rattle.spec.specs.Finder.{turn}
 use borrow.Author.Needs.{needs}
-use Rattle.finder.proofs.Steps as Steps
+use Rattle.finder.proofs.Calls as Calls
 use Rattle.finder.proofs.feed.Statement.{statement}
 use Rattle.finder.proofs.feed.Tie as tie
 
@@ -17,7 +17,7 @@ cast-t13 c = search needs
 returns : tie.Need-returns
 returns c =
     let a = c .before .before .before .before .before .args in
-    ap (λ (n : ℕ). turn n (a .f) (a .text .now)) (c .number .ensures) ∙ sym (Steps.feed-refused (a .f) (a .text .now) (a .block .now) (c .before .if1 .taken))
+    ap (λ (n : ℕ). turn n (a .f) (a .text .now)) (c .number .ensures) ∙ sym (Calls.feed-refused (a .f) (a .text .now) (a .block .now) (c .before .if1 .taken))
 
 slice-aggregate-feed-named : tie.Need-slice-aggregate-feed-named
 slice-aggregate-feed-named c = search needs
@@ -35,7 +35,7 @@ returns-2 : tie.Need-returns-2
 returns-2 c =
     let w = c .before .before .before .before .before .before .before .before .before in
     let a = w .before .before .before .before .args in
-    sym (Steps.feed-accepted (a .f) (a .text .now) (a .block .now) (w .if1 .left) _ (c .before .before .before .feed-named .ensures))
+    sym (Calls.feed-accepted (a .f) (a .text .now) (a .block .now) (w .if1 .left) _ (c .before .before .before .feed-named .ensures))
 
 pub feed-spec : {M : Type 1} → statement M
 feed-spec =
