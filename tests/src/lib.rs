@@ -1,4 +1,4 @@
-//! An independent implementation of document 01 and what is needed to compare a library with it.
+//! An independent implementation of documents 01 and 02 and what is needed to compare a library with it.
 //!
 //! The library under test itself is named only in `library.rs`, which belongs to the program
 //! `differential`: the unit tests of this crate run without it.

@@ -1,6 +1,6 @@
 //! Document 02, Ask 13, on real calls: where a link is replaced by the fields of its parent's Flat,
-//! "every question about the asked name has the same answer", and so have Flat and, places and file
-//! numbers aside, the listing.
+//! "every question about the asked name has the same answer", and so have a batch, Flat and, places
+//! and file numbers aside, the listing.
 
 use crate::case::{Case, Operation};
 use crate::properties::{check_equal, demand, good_ids, Lent, FLAT_ROOM};
@@ -135,14 +135,16 @@ mod tests {
 
     #[test]
     fn an_answer_that_is_another_each_time_is_found() {
-        let calls = Cell::new(0);
-        let subject = Twisted(|answer: Answer| {
-            calls.set(calls.get() + 1);
-            if answer.operation == Operation::Number && answer.code == ACCEPTED {
-                *answer.number += calls.get();
-            }
-            answer.code
-        });
-        assert!(cases().any(|case| broken(&case, &subject).is_some()));
+        for twisted in [Operation::Number, Operation::Batch] {
+            let calls = Cell::new(0);
+            let subject = Twisted(|answer: Answer| {
+                calls.set(calls.get() + 1);
+                if answer.operation == twisted && answer.code == ACCEPTED {
+                    *answer.number += calls.get();
+                }
+                answer.code
+            });
+            assert!(cases().any(|case| broken(&case, &subject).is_some()), "{twisted:?}");
+        }
     }
 }

@@ -43,6 +43,11 @@ impl<'a, S: Subject> Lent<'a, S> {
         self.case.room = room;
         observe(&self.case, self.subject)
     }
+
+    fn batch(&mut self, questions: &[u8], room: u64) -> Observed {
+        self.case.questions = questions.to_vec();
+        self.call(Operation::Batch, b"", room)
+    }
 }
 
 /// Which property the subject breaks, in words; nothing if it keeps them all.
@@ -195,7 +200,7 @@ fn check_alone(
 }
 
 /// Each question gives the same answer, number and buffer of both databases, room or no room; so do
-/// Flat, and List but for the places.
+/// a batch of them all, Flat, and List but for the places.
 pub fn check_equal<S: Subject>(
     case: &Case,
     one: &mut Lent<S>,
@@ -208,6 +213,11 @@ pub fn check_equal<S: Subject>(
             demand(same, || format!("{question:?} of {} differs", text(id)))?;
         }
     }
+    let questions = questions_about(ids);
+    for room in [case.room, 2 * questions.len() as u64] {
+        let same = one.batch(&questions, room) == other.batch(&questions, room);
+        demand(same, || format!("a batch of all questions with room for {room} differs"))?;
+    }
     let flats =
         [one.call(Operation::Flat, b"", case.room), other.call(Operation::Flat, b"", case.room)];
     demand(flats[0] == flats[1], || "Flat with this room differs".into())?;
@@ -217,6 +227,12 @@ pub fn check_equal<S: Subject>(
         && lists[0].numbers == lists[1].numbers
         && listing_without_places(&lists[0]) == listing_without_places(&lists[1]);
     demand(same, || "List with this room differs by more than places".into())
+}
+
+/// The questions of a batch: each id with each kind.
+fn questions_about(ids: &[[u8; 2]]) -> Vec<u8> {
+    let about = |&[first, second]: &[u8; 2]| QUESTIONS.map(|(kind, _)| [first, second, kind, 0]);
+    ids.iter().flat_map(about).flatten().collect()
 }
 
 /// The whole block, guards too, with the places and files of the reported records set to 0.
