@@ -113,7 +113,7 @@ extern "C" {
 #define TERMCAP_REASON_LOST_LINK 4u
 #define TERMCAP_REASON_CYCLE 5u
 /* With an `out` of db_len bytes and `records` of this many termcap_repair never gives 9. This is
- * proved (crates/demands/specs/RepairPromises.antt). */
+ * proved (crates/demands/specs/RepairRoom.antt). */
 #define TERMCAP_REPAIR_RECORDS_BYTES(db_len) (8 * ((size_t)(db_len) + 1))
 
 /* Bytes of a finder's text that are always enough: with them 9 is about the output alone. This is proved
@@ -154,9 +154,9 @@ uint32_t termcap_show_files(const uint8_t *db, size_t db_len, const size_t *ends
                             uint64_t *length);
 
 /*
- * Search, for measurements: whether a description has the name, and how many names a search that goes
- * from name to name compares: exactly those of its length in lines that aren't ignored, up to and with
- * the first equal one, or all if none is. It finds the names that Show finds, and is slower: Show passes
+ * Search, for measurements: whether a description has the name, and how many names were compared: those
+ * as long as the asked one, in lines that aren't ignored, up to and with the first equal one, or all if
+ * none is equal. It finds the names that Show finds, and is slower: Show passes
  * over most of the database without a look at single names. Show compares no byte of a name of another
  * length, either, but it may compare text that is no name, as a field or a comment, so this count is
  * not Show's.
@@ -288,9 +288,8 @@ uint32_t termcap_repair(const uint8_t *db, size_t db_len, uint8_t *out, size_t o
  * size, and lines that don't have the name any length. However the file is cut, the state, the text and
  * the answer are those of the whole file in one block; this is proved (crates/demands/specs/Finder.antt).
  *
- * Both the struct and the text are the caller's, and the finder's from its opening to its answer: pass
- * the same two at each call and change neither in between. They may be copied or moved between calls. The
- * text needs no first value.
+ * You own the struct and the text. From opening to answer pass both to every call, and change neither in
+ * between; they may be copied or moved. The text needs no first value.
  *
  *     static struct termcap_finder finder;
  *     static uint8_t text[TERMCAP_FINDER_TEXT_BYTES], block[512], line[2048];
@@ -321,7 +320,7 @@ struct termcap_finder {
     /* 0: the line has only blanks so far. 1, and any other number: its names are being read. 2: it has
      * the name. 3: it cannot have it. 4: the line with the name is complete. */
     uint8_t stage;
-    /* Bytes of the present name, all as in the asked one; 65 if one differs. */
+    /* Length of the present name while it is a prefix of the asked one; otherwise 65. */
     uint8_t matched;
     /* Bytes of the line that were collected, at most 16,385. */
     uint16_t count;
@@ -343,9 +342,8 @@ struct termcap_finder {
 uint32_t termcap_finder_open(const uint8_t *name, size_t name_len, struct termcap_finder *finder);
 
 /*
- * Feeds the next block. `text` gets the bytes of the line that are collected, from its start: so far all
- * of a line that has the name, and the names of one that may have it. Bytes past its end are only
- * counted; no byte past the first 16,385 is written.
+ * Feeds the next block. `text` holds the line so far: its names while one may still match, all of it once
+ * one has. Bytes past its end are only counted; no byte past the first 16,385 is written.
  *
  * Refusals: 17 after the end; struct and text then keep every byte.
  */
@@ -403,12 +401,12 @@ uint32_t termcap_send_at(const uint8_t *command, size_t command_len, uint64_t ro
 
 /* Room that is always enough for termcap_fill: each of the two parameters is written once, from a
  * sequence of at least two bytes, as at most five digits or as a byte with at most two compensations.
- * This one is not among the proved statements. */
+ * This is proved (crates/demands/specs/Room.antt). */
 #define TERMCAP_FILL_BYTES(command_len, back_len, up_len) \
     ((size_t)(command_len) + 2 * ((size_t)(back_len) + (size_t)(up_len)) + 8)
 
 /* The longest delay that termcap_pad takes, in tenths of a millisecond; termcap_fill gives none that
- * is longer. */
+ * is longer, which is proved (crates/demands/specs/Halves.antt). */
 #define TERMCAP_LONGEST_DELAY 99999u
 
 /*

@@ -88,7 +88,8 @@ pub use refusal::{NotARefusal, Refusal};
 pub use removal::{Reason, Removal, Repair};
 
 /// The most bytes a decoded string has: it is no longer than its field, and a chain's size is at
-/// most 16,384. This, the records, Flat and the pads are proved (`crates/demands/specs/Room.antt`).
+/// most 16,384. This, the records, Flat, the pads and the sizes of what is sent are proved
+/// (`crates/demands/specs/Room.antt`).
 pub const STRING_BYTES: usize = 16_384;
 /// The most records a terminal has: flags, three bytes each with the colon, in a chain of 16,384.
 pub const RECORDS: usize = 5_460;
@@ -362,8 +363,8 @@ impl Database<'_> {
     /// [`flag`](Database::flag), [`number`](Database::number) or [`string`](Database::string) gives
     /// to the same question, with a string's length for its bytes; this is proved
     /// (`crates/demands/specs/Batch.antt`). So an unknown name, or a damaged description, is refused
-    /// in each answer; the whole call is refused with [`Refusal::BadName`] and
-    /// [`Refusal::DatabaseTooLarge`] alone.
+    /// in each answer; the whole call is refused with [`Refusal::BadName`],
+    /// [`Refusal::DatabaseTooLarge`] and, for a database with ends, [`Refusal::BadEnds`] alone.
     ///
     /// ```
     /// # use termcap_proved::{Answered, Database, Question, Refusal};
@@ -577,8 +578,8 @@ pub fn send_into(command: impl AsRef<[u8]>, line: &Line, out: &mut [u8]) -> Resu
 
 /// As [`send`], with the position filled into the body.
 ///
-/// The buffer grows as with [`send`], up to the bytes of the command, of both strings, 7 more and
-/// [`PADS`].
+/// The buffer grows as with [`send`], up to the bytes of the command, twice those of both strings,
+/// 8 more and [`PADS`].
 ///
 /// ```
 /// # use termcap_proved::{send_at, Line, Position};
@@ -595,9 +596,9 @@ pub fn send_at(
     grown(filled_bytes(command, position), |out| send_at_into(command, position, line, out))
 }
 
-/// The most bytes that a filled body has. Each of the two parameters is written once, from a sequence
-/// of at least two bytes: as a decimal of at most five digits, or as a byte with at most two
-/// compensations, each the string or one byte 8.
+/// The most bytes that a filled body has, as `crates/demands/specs/Room.antt` proves. Each of the two
+/// parameters is written once, from a sequence of at least two bytes: as a decimal of at most five
+/// digits, or as a byte with at most two compensations, each the string or one byte 8.
 fn filled_bytes(command: &[u8], position: &Position<'_>) -> usize {
     command.len() + 2 * 3 + 2 * (position.back.len() + position.up.len() + 1)
 }

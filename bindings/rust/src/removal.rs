@@ -60,7 +60,8 @@ impl Removal {
     /// The number of bytes of a record in a lent buffer.
     pub const BYTES: usize = 16;
 
-    /// The bytes that are always enough for the records of a database of so many bytes.
+    /// The bytes that are always enough for the records of a database of so many bytes; this is proved
+    /// (`crates/demands/specs/RepairRoom.antt`).
     pub fn most_bytes(database: usize) -> usize {
         8 * (database + 1)
     }

@@ -15,6 +15,9 @@ pub struct FinderState {
     pub name: [u8; 64],
 }
 
+// The size of `struct termcap_finder` in the header.
+const _: () = assert!(core::mem::size_of::<FinderState>() == 72);
+
 mod c {
     use super::FinderState;
 
