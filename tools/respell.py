@@ -92,7 +92,14 @@ def main(top):
         if table[name].endswith("_lem"):
             print(f"look: {name} is now {table[name]}" + (", a definition" if name in words else ""))
         taken.add(table[name])
+    # Fields of records.
+    table.update({"names-of": "names_are", "is-link": "a_link", "has-name": "holds_name"})
     camel = {n: t for n, t in table.items() if snake(n) != n}
+    fields = set()
+    for path in texts(crates, ".antt"):
+        if not is_function_proof(path):
+            for block in re.findall(r"(?m)^(?:pub )?record .*\n((?:  .*\n|\n)+)", code_of(path, read(path))):
+                fields.update(re.findall(r"(?m)^  (?:pub )?([^\s(){}.;,]+) :", block))
 
     def turn(text, where, antt):
         def one(m):
@@ -106,7 +113,7 @@ def main(top):
                 line = before[before.rfind("\n") + 1 :]
                 if re.search(r"(?<!\S)--", line) and not before.endswith(("`", ".")):
                     return name
-                if before.endswith("."):
+                if before.endswith(".") and name not in fields:
                     head = re.search(r"([^\s(){}.;,@\"«»]+)\.$", before)
                     if not head or not re.match(r"[A-Z]", head.group(1)):
                         return name

@@ -2,7 +2,7 @@
 -- Assumes nothing.
 use Prim.Native.Nat.{ℕ, ◌+◌, ◌*◌, ◌/◌, ◌%◌, ◌≤◌, ◌<◌}
 use mathlib.Core.Path.{◌≡◌, refl, ◌∙◌, ap, sym}
-use mathlib.Core.Logic.{◌↔◌, ◌⊎◌, inl, inr}
+use mathlib.Core.Logic.{◌↔◌}
 use mathlib.Core.Bool.{Bool, true, false}
 use mathlib.Core.List.{List, [], ◌∷◌, ◌++◌, map, append_assoc}
 use native.Mathlib.Nat.{div-div-eq-div-mul, div-add-mod, mod-eq_of_lt}
@@ -39,12 +39,11 @@ use Rattle.laws.proofs.Readings.{reading-entered}
 use Rattle.spec.specs.Files.{Files, alone}
 use Rattle.spec.specs.Chain.{Field, placed, texts, Terminal, refused, terminal}
 use Rattle.laws.proofs.AcceptedChain.{texts-placed}
-use Rattle.spec.specs.Questions.{terminal_of, terminal_for, hit_answer, answer_for, presented, flag_answer, number_answer, decoded_outcome, string_for, string_outcome}
+use Rattle.spec.specs.Questions.{terminal_for, hit_answer, answer_for, presented, flag_answer, number_answer, decoded_outcome, string_for, string_outcome}
 use Rattle.spec.specs.Lookup.{Hit, none, hit, matches, lookup, can_win, winning, value_of, bytes_of}
 use Rattle.spec.specs.Answers.{Outcome, put}
 use Rattle.laws.proofs.Removal.{Clear, AllWin, matches-hides, win_no_cancel, lookup-hit, lookup_on}
 use Rattle.laws.proofs.Winning.{winning-wins, winning-sound, lookup-winning}
-use Rattle.spec.specs.declared.Refusal.{Refusal}
 use Rattle.spec.specs.declared.Refusal.TheVariants.{BadId, NoRoom}
 use Rattle.spec.specs.declared.Answer.{Answer}
 use Rattle.spec.specs.declared.Answer.TheVariants.{Present, Absent, Refused as NotAnswered}

@@ -114,7 +114,7 @@ module _ (f : List ℕ) (a : ℕ) (cut : Cut f a) (bytes t : List ℕ) (chunk : 
   rest-moved n (inr k) =
       let behind : ℕ = a + length k.chunk in
       let later : later_lines (join a (drop a f)) ≡ lines_from behind (join behind k.rest) =
-      ap (λ (s : List ℕ). later_lines (join a s)) k.whole ∙ (k.is-chunk a k.rest).1 in
+      ap (λ (s : List ℕ). later_lines (join a s)) k.whole ∙ (k.is_chunk a k.rest).1 in
       let rest : drop behind f ≡ k.rest =
       sym (drop-drop (length k.chunk) a f) ∙ ap (drop (length k.chunk)) k.whole ∙ drop_at k.chunk k.rest _ refl in
       rw (own_chunk f a cut.inside k, later, rest)

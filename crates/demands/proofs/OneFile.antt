@@ -9,7 +9,7 @@ use lib.Dec.{eqb, ltb}
 use lib.ListN.{length, drop}
 use lib.Seq.{take_at, drop_at}
 use Rattle.spec.specs.Choice.{pick, both, either}
-use Rattle.spec.specs.Refusals.{good_name, good_id, too_large}
+use Rattle.spec.specs.Refusals.{good_name, too_large}
 use Rattle.spec.specs.Lines.{find_line, line_at, extent}
 use Rattle.spec.specs.Fields.{
   names_of,
@@ -27,11 +27,11 @@ use Rattle.spec.specs.Fields.{
   capability,
   reading,
 }
-use Rattle.spec.specs.Files.{alone, contents, file_start, file_at, line_of, or_later, locate, find_from}
+use Rattle.spec.specs.Files.{alone, file_start, file_at, or_later, locate, find_from}
 use Rattle.spec.specs.Chain as New
 use Rattle.spec.specs.Chain.{Field, placed, texts, Terminal, refused, terminal}
 use Rattle.spec.specs.Lookup.{can_win, hidden, winning_after, winning}
-use Rattle.spec.specs.Answers.{Outcome, put}
+use Rattle.spec.specs.Answers.{Outcome}
 use Rattle.spec.specs.Questions.{terminal_of, terminal_for, answer_for, string_for, shown, show_answer, flag_answer, number_answer, string_outcome}
 use Rattle.spec.specs.Batch.{batch_outcome}
 use Rattle.spec.specs.Listing.{record_of, records, list_for, flat_for, list_outcome, flat_outcome}
@@ -41,11 +41,11 @@ use Rattle.spec.specs.declared.Location.{Location}
 use Rattle.spec.specs.declared.Located.{Located}
 use Rattle.spec.specs.declared.Located.TheVariants.{At as LocatedAt, Nothing as Nowhere}
 use Rattle.spec.specs.declared.Refusal.{Refusal}
-use Rattle.spec.specs.declared.Refusal.TheVariants.{BadName, DatabaseTooLarge, LostLink, UnknownName, Malformed, Cycle, ChainTooLarge}
+use Rattle.spec.specs.declared.Refusal.TheVariants.{BadName, DatabaseTooLarge, LostLink, UnknownName, Cycle, ChainTooLarge}
 use Rattle.spec.specs.declared.Kind.TheVariants.{Flag, Number}
 use Rattle.spec.specs.declared.Shown.TheVariants.{Part}
 use Rattle.spec.specs.declared.Written.{Written}
-use Rattle.spec.specs.declared.Written.TheVariants.{Count, Refused}
+use Rattle.spec.specs.declared.Written.TheVariants.{Count}
 use Rattle.laws.proofs.FileLines.{line-alone, good-alone, contents-alone}
 use Rattle.laws.proofs.Removal.{AllWin}
 use Rattle.laws.proofs.Winning.{winning-wins}

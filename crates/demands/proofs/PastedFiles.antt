@@ -103,7 +103,7 @@ module _ (db : List (List ℕ)) (name : List ℕ) (l : Location) (before after :
 
   moved : Edit file l.at text new_to new_file
   unfolding line_of
-  moved = edit file l.at cut (text ++ 10 ∷ []) text new.chunk new.ignored new.has-name
+  moved = edit file l.at cut (text ++ 10 ∷ []) text new.chunk new.ignored new.holds_name
 
   abbrev edited : List (List ℕ)
   edited = set db l.file new_file
@@ -182,6 +182,6 @@ module _ (db : List (List ℕ)) (name : List ℕ) (l : Location) (before after :
         walks = walk-edited;
         names = first_names_lem db edited l before walked_again.front after walked_again.texts (ap names_of text-edited ∙ new.all-names);
         same =
-            ap winners texts_new ∙ winners_pasted (front ++ parts.before) parts.behind parts.field linked joined parts.is-link parts.rest
+            ap winners texts_new ∙ winners_pasted (front ++ parts.before) parts.behind parts.field linked joined parts.a_link parts.rest
             ∙ sym (ap winners texts_old);
       }

@@ -49,7 +49,7 @@ pub record Linked (fs : List (List ℕ)) (name : List ℕ) : Type 0 where
   pub field : List ℕ
   pub behind : List (List ℕ)
   pub parts : fs ≡ before ++ field ∷ behind
-  pub is_link_lem : reading field ≡ link name
+  pub a_link : reading field ≡ link name
   pub rest : all_ignored behind ≡ true
   pub paste : (parent : List (List ℕ)) → pasted parent fs ≡ before ++ (parent ++ behind)
   pub ends : (ts : List (List ℕ)) → judge ts ≡ no_link → judge (before ++ ts) ≡ no_link
@@ -66,7 +66,7 @@ linked-fields (f ∷ fs) name e = go (reading f) refl e (linked-fields fs name)
           field = k.field;
           behind = k.behind;
           parts = ap (λ (ts : List (List ℕ)). f ∷ ts) k.parts;
-          is_link_lem = k.is-link;
+          a_link = k.a_link;
           rest = k.rest;
           paste = λ parent. rw n (ap (λ (ts : List (List ℕ)). f ∷ ts) (k.paste parent));
           ends = λ ts h. j (k.before ++ ts) (judge (k.before ++ ts)) ∙ k.ends ts h;
@@ -75,7 +75,7 @@ linked-fields (f ∷ fs) name e = go (reading f) refl e (linked-fields fs name)
     here : (n : List ℕ) → reading f ≡ link n → (x : Bool) → all_ignored fs ≡ x → pick x (link_to n) malformed_line ≡ link_to name → Linked (f ∷ fs) name
     here n q true r h =
         let i : n ≡ name = cc in
-        record { before = []; field = f; behind = fs; parts = refl; is_link_lem = q ∙ ap link i; rest = r; paste = λ parent. rw q; ends = λ ts j. j }
+        record { before = []; field = f; behind = fs; parts = refl; a_link = q ∙ ap link i; rest = r; paste = λ parent. rw q; ends = λ ts j. j }
     here n q false r h = let z : ◌≡◌ {A = ℕ} 0 1 = cc in absurd (omega arith)
 
     go : (r : Reading) → reading f ≡ r → judged r fs (judge fs) ≡ link_to name → (judge fs ≡ link_to name → Linked fs name) → Linked (f ∷ fs) name
@@ -131,7 +131,7 @@ pub record NewLine (line : List ℕ) (parent : List (List ℕ)) (text : List ℕ
   pub covered : line_size text ≤ line_size line + size parent
   pub ignored : is_ignored text ≡ is_ignored line
   pub all-names : names_of text ≡ names_of line
-  pub has_name_lem : (n : List ℕ) → has_name n text ≡ has_name n line
+  pub holds_name : (n : List ℕ) → has_name n text ≡ has_name n line
 
 module _ (line name : List ℕ) (link : verdict line ≡ link_to name) (parent : List (List ℕ)) (wins : AllWin parent)
     (parent-free : AllFree 10 parent) (parent-stop : AllFree 58 parent) where
@@ -180,5 +180,5 @@ module _ (line name : List ℕ) (link : verdict line ≡ link_to name) (parent :
         covered = new_size;
         ignored = rw i (unfold with_colons in kept-ignored line (with_colons new_fields) (linked-line line name link).0 i);
         all-names = new_names;
-        has_name_lem = λ n. unfold with_colons in kept-name line (with_colons new_fields) n;
+        holds_name = λ n. unfold with_colons in kept-name line (with_colons new_fields) n;
       }

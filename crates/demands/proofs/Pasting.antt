@@ -45,7 +45,7 @@ unfolding flat_fields flat_text
 flat-fields db name names fs accepted lent room =
     let k = winning-sound fs name names (sound db name names fs accepted) in
     ap (λ (s : List ℕ). fields_of (line_at s 0)) (line_is db name names fs accepted lent room)
-    ∙ ap fields_of (alone-line names (texts (winning fs)) k.names-free k.free) ∙ closed-fields names (texts (winning fs)) k.names-stop k.stop
+    ∙ ap fields_of (alone-line names (texts (winning fs)) k.names_free k.free) ∙ closed-fields names (texts (winning fs)) k.names_stop k.stop
 
 module _ (db : Files) (name : List ℕ) (l : Location) (lent : List ℕ) (p : Pasting db name l lent) where
   abbrev old_files : List (List ℕ)
@@ -65,12 +65,12 @@ module _ (db : Files) (name : List ℕ) (l : Location) (lent : List ℕ) (p : Pa
   linked-accepted : Accepted db p.linked (first_names old_files p.after) (joined_fields old_files 0 p.after)
   linked-accepted =
       let found : Located = find_from old_files 0 p.linked in
-      accepted-walk db p.linked p.after good (verdict-good (line_of old_files l) p.linked p.has-link) small
+      accepted-walk db p.linked p.after good (verdict-good (line_of old_files l) p.linked p.has_link) small
       (way_walk old_files p.linked p.after
-      (linked_way old_files name l p.before p.after p.linked p.in-chain p.has-link found p.same_line))
+      (linked_way old_files name l p.before p.after p.linked p.in_chain p.has_link found p.same_line))
 
   abbrev pasting : List (List ℕ)
-  pasting = parent old_files name l p.before p.after p.linked p.in-chain p.has-link
+  pasting = parent old_files name l p.before p.after p.linked p.in_chain p.has_link
 
   parent_is : flat_fields (flat_outcome db p.linked lent) ≡ pasting
   parent_is = flat-fields db p.linked (first_names old_files p.after) (joined_fields old_files 0 p.after) linked-accepted lent p.room
@@ -87,10 +87,10 @@ module _ (db : Files) (name : List ℕ) (l : Location) (lent : List ℕ) (p : Pa
   new = edited_line pasting (line_at file l.at)
 
   inside : (0 < old) × (l.at + old ≤ length file)
-  inside = bounds old_files name l p.before p.after p.linked p.in-chain p.has-link
+  inside = bounds old_files name l p.before p.after p.linked p.in_chain p.has_link
 
   some : l.file < length db.ends
-  some = omega (arith, in_files old_files name l p.before p.after p.linked p.in-chain p.has-link, length-contents db)
+  some = omega (arith, in_files old_files name l p.before p.after p.linked p.in_chain p.has_link, length-contents db)
 
   abbrev after : Files
   after = edited pasting l db
@@ -99,11 +99,11 @@ module _ (db : Files) (name : List ℕ) (l : Location) (lent : List ℕ) (p : Pa
   unfolding edited
   good-after = good-edited db l.file l.at old new good some inside.1
 
-  walked : PastedWalk old_files name l p.before p.after p.linked p.in-chain p.has-link (contents after)
+  walked : PastedWalk old_files name l p.before p.after p.linked p.in_chain p.has_link (contents after)
   unfolding edited line_of
   walked =
       rw (contents-edited db l.file l.at old new good some inside.1)
-      (pasted-walk old_files name l p.before p.after p.linked p.in-chain p.has-link)
+      (pasted-walk old_files name l p.before p.after p.linked p.in_chain p.has_link)
 
   kept : AnswersKept db after name
   kept =
@@ -114,7 +114,7 @@ module _ (db : Files) (name : List ℕ) (l : Location) (lent : List ℕ) (p : Pa
       let new-accepted : Accepted after name (first_names (contents after) places) gs =
       accepted-walk after name places good-after good-name (rw parent_is at p.limit) walked.walks in
       answers-kept (first_names old_files (p.before ++ l ∷ p.after)) fs gs win db after name
-      (accepted-walk db name (p.before ++ l ∷ p.after) good good-name small p.in-chain) (rw walked.names at new-accepted)
+      (accepted-walk db name (p.before ++ l ∷ p.after) good good-name small p.in_chain) (rw walked.names at new-accepted)
 
 pub pasting_sound : PastingSound
 pasting_sound db name l lent p = rw (parent_is db name l lent p) (kept db name l lent p)

@@ -93,6 +93,7 @@ unfolding descriptions
 parallel_same removed [] [] h = refl
 parallel_same removed [] (m ∷ []) h = rw h.0
 parallel_same removed [] (m ∷ n ∷ ms) h = let z : ◌≡◌ {A = ℕ} 0 1 = cc in absurd (omega arith)
+parallel_same removed (d ∷ ds) [] h = elim h [ ]
 parallel_same removed (d ∷ ds) (m ∷ ms) h = rw (h.0.0, parallel_same removed ds ms h.1)
 
 -- ---- the promises

@@ -50,6 +50,7 @@ Has p f [] = ⊥
 Has p f (k ∷ ks) = ((k.at ≡ p) × (k.to ≡ f)) ⊎ Has p f ks
 
 fresh_has : (p : ℕ) (f : Found) (ks : List Link) → Fresh p ks → Has p f ks → ⊥
+fresh_has p f [] h impossible = elim impossible [ ]
 fresh_has p f (k ∷ ks) h (inl e) = h.0 e.0
 fresh_has p f (k ∷ ks) h (inr e) = fresh_has p f ks h.1 e
 
@@ -86,6 +87,7 @@ reason-found ks p (At q) e = (q, refl)
 stands_link : (passed ks : List Link) → Distinct (passed ++ ks) → (p : ℕ) (f : Found) → Has p f ks → reason_at (removed_links passed ks) p ≡ 0
     → (q : ℕ) × (f ≡ At q) × (leads (standing passed ks) p ≡ At q)
 unfolding standing removed_links reason_at
+stands_link passed [] d p f h e = elim h [ ]
 stands_link passed (k ∷ ks) d p f h e =
     go (eqb (link_reason (passed ++ k ∷ ks) k.at k.to) 0) refl h e (stands_link (passed ++ k ∷ []) ks) (stands_link passed ks)
   where
@@ -215,6 +217,8 @@ In p q (d ∷ ds) [] = ⊥
 In p q (d ∷ ds) (m ∷ ms) = ((d.start ≡ p) × (m.start ≡ q) × (is_ignored d.text ≡ false)) ⊎ In p q ds ms
 
 pairs_in : (P : ℕ → ℕ → Type 0) (ds ms : List Line) (p q : ℕ) → Pairs P ds ms → In p q ds ms → P p q
+pairs_in P [] ms p q h impossible = elim impossible [ ]
+pairs_in P (d ∷ ds) [] p q h impossible = elim impossible [ ]
 pairs_in P (d ∷ ds) (m ∷ ms) p q h (inl e) = rw (← e.0, ← e.1) (h.0 e.2)
 pairs_in P (d ∷ ds) (m ∷ ms) p q h (inr i) = pairs_in P ds ms p q h.1 i
 
@@ -225,11 +229,15 @@ all_in (d ∷ ds) [] es ns w = tt
 all_in (d ∷ ds) (m ∷ ms) es ns w = ((λ i. w d.start m.start (inl (refl, refl, i))), all_in ds ms es ns (λ p q h. w p q (inr h)))
 
 in_above : (a : ℕ) (ds ms : List Line) (p q : ℕ) → Rising a ms → In p q ds ms → a ≤ q
+in_above a [] ms p q r impossible = elim impossible [ ]
+in_above a (d ∷ ds) [] p q r impossible = elim impossible [ ]
 in_above a (d ∷ ds) (m ∷ ms) p q r (inl e) = omega (arith, r.0, e.1)
 in_above a (d ∷ ds) (m ∷ ms) p q r (inr i) = omega (arith, r.0, in_above (suc m.start) ds ms p q r.1 i)
 
 -- a mended line comes from one line
 in_one : (a : ℕ) (ds ms : List Line) (p h q : ℕ) → Rising a ms → In p q ds ms → In h q ds ms → p ≡ h
+in_one a [] ms p h q r impossible _ = elim impossible [ ]
+in_one a (d ∷ ds) [] p h q r impossible _ = elim impossible [ ]
 in_one a (d ∷ ds) (m ∷ ms) p h q r (inl e) (inl f) = sym e.0 ∙ f.0
 in_one a (d ∷ ds) (m ∷ ms) p h q r (inl e) (inr i) = absurd (omega (arith, e.1, in_above (suc m.start) ds ms h q r.1 i))
 in_one a (d ∷ ds) (m ∷ ms) p h q r (inr i) (inl e) = absurd (omega (arith, e.1, in_above (suc m.start) ds ms p q r.1 i))
@@ -243,6 +251,7 @@ module _ (removed : List Removed) where
   find-same name [] [] h = inl (refl, refl)
   find-same name [] (m ∷ []) h = inl (refl, rw h.0)
   find-same name [] (m ∷ n ∷ ms) h = let z : ◌≡◌ {A = ℕ} 0 1 = cc in absurd (omega arith)
+  find-same name (d ∷ ds) [] h = elim h [ ]
   find-same name (d ∷ ds) (m ∷ ms) h = go (is_ignored d.text) refl (has_name name d.text) refl (find-same name ds ms h.1)
     where
       go : (x : Bool) → is_ignored d.text ≡ x → (y : Bool) → has_name name d.text ≡ y
@@ -262,6 +271,7 @@ module _ (removed : List Removed) where
   each_of P [] [] h w = tt
   each_of P [] (m ∷ []) h w = ((λ i. clash (sym h.0 ∙ i)), tt)
   each_of P [] (m ∷ n ∷ ms) h w = let z : ◌≡◌ {A = ℕ} 0 1 = cc in absurd (omega arith)
+  each_of P (d ∷ ds) [] h w = elim h [ ]
   each_of P (d ∷ ds) (m ∷ ms) h w = ((λ i. w.0 (h.0.0 ∙ i)), each_of P ds ms h.1 w.1)
 
 pairs-map : (P Q : ℕ → ℕ → Type 0) (ds ms : List Line) → ((p q : ℕ) → P p q → Q p q) → Pairs P ds ms → Pairs Q ds ms

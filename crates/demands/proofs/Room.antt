@@ -162,7 +162,7 @@ list-room db name buffer h = go (terminal_of db name) refl (terminal_early db na
     go (refused r) e k = refused-room r k
     go (terminal names fs) e k =
         let b = accepted-bounded db name names fs e in
-        count_room _ _ (put-fits (records (winning fs)) (length (winning fs)) buffer (omega (arith, b.record-bytes, h)))
+        count_room _ _ (put-fits (records (winning fs)) (length (winning fs)) buffer (omega (arith, b.record_bytes, h)))
 
 flat-room : (db : Files) (name buffer : List ℕ) → 16385 ≤ length buffer → HasRoom (flat_outcome db name buffer).answer
 unfolding flat_outcome flat_for

@@ -292,12 +292,12 @@ module _ (db : List ℕ) (sound : Sound db) where
       rw e (none_removed (passed ++ k ∷ []) ks (rw (append_assoc passed (k ∷ []) ks) f) g.1)
 
   plain : Plain ls
-  plain = each_plain db ls (each_text db) sound.well-formed
+  plain = each_plain db ls (each_text db) sound.well_formed
 
   nothing_removed : link_removals (lines_of db) ≡ []
   unfolding link_removals
   nothing_removed =
-      let f = fine_links ls (each_text db) plain sound.no-lost-link sound.no-cycle in
+      let f = fine_links ls (each_text db) plain sound.no_lost_link sound.no_cycle in
       rw (left-all ls plain) (none_removed [] (links_among ls ls) f f)
 
   -- "COMES BACK UNCHANGED WITH NO RECORDS"

@@ -106,7 +106,7 @@ module _ (db : List ℕ) (sound : Sound db) where
 
   fine : (name : List ℕ) (p : ℕ) → find_line db name ≡ At p → Fine p
   fine name p e =
-      (found_each _ db name p sound.well-formed e, found_each _ db name p sound.no-lost-link e, found_each _ db name p sound.no-cycle e)
+      (found_each _ db name p sound.well_formed e, found_each _ db name p sound.no_lost_link e, found_each _ db name p sound.no_cycle e)
 
   -- what a step looks for is there, or the walk has only begun; and it is a sound description
   abbrev Ready : Refusal → Found → Type 0

@@ -1,11 +1,10 @@
 -- The winning fields are those that the lookup comes to. Assumes nothing.
-use Prim.Native.Nat.{ℕ}
 use mathlib.Core.Path.{◌≡◌, refl, sym, ap, ◌∙◌}
 use mathlib.Core.Bool.{Bool, true, false, not}
 use mathlib.Core.List.{List, [], ◌∷◌, ◌++◌}
 use lib.Dec.{eqb}
 use Rattle.spec.specs.Choice.{pick, both}
-use Rattle.spec.specs.Fields.{Content, Reading, malformed, ignored, link, capability, reading, content_kind}
+use Rattle.spec.specs.Fields.{Reading, malformed, ignored, link, capability, reading, content_kind}
 use Rattle.spec.specs.Chain.{Field}
 use Rattle.spec.specs.Lookup.{Hit, none, hit, is_present, is_live, lookup, can_win, hidden, winning_after, winning, read_before}
 use Rattle.laws.proofs.Winning.{winning-after, winner_answers, winner_first, loser_passed}

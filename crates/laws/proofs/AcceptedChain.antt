@@ -99,7 +99,7 @@ module _ (db : List (List ℕ)) where
 pub record Sound (name names : List ℕ) (ts : List (List ℕ)) : Type 0 where
   pub line : List ℕ
   pub colon : holds 58 line ≡ true
-  pub names_of_lem : names_of line ≡ names
+  pub names_are : names_of line ≡ names
   pub held : Holds name line
   pub names_free : Free 10 names
   pub names_stop : Free 58 names
@@ -121,7 +121,7 @@ resolved_sound db name names fs e = go (walk db name) refl e
         rw (en, ef) (record {
           line = line_of db p;
           colon = k.colon;
-          names_of_lem = refl;
+          names_are = refl;
           held = located_holds db name 0 p k.at;
           names_free = names_free 10 (line_of db p) (line_of_free db p);
           names_stop = names_stop (line_of db p);
@@ -155,18 +155,18 @@ module _ (name names : List ℕ) (ts : List (List ℕ)) (k : Sound name names ts
   sound-held : Holds name (with_colons (names ∷ ts))
   unfolding with_colons
   sound-held =
-      rw (← k.names-of)
+      rw (← k.names_are)
       (kept-ignored k.line (with_colons ts) k.colon k.held.0, kept-name k.line (with_colons ts) name ∙ k.held.1)
 
   sound-verdict : judge ts ≡ no_link → verdict (with_colons (names ∷ ts)) ≡ no_link
   unfolding verdict
-  sound-verdict j = rw (closed-fields names ts k.names-stop k.stop, closed-colon names ts) j
+  sound-verdict j = rw (closed-fields names ts k.names_stop k.stop, closed-colon names ts) j
 
   -- If its fields end the chain, the database that has that line alone is that line's terminal, with all places 0.
   pub resolve-alone : judge ts ≡ no_link → resolve ((with_colons (names ∷ ts) ++ 10 ∷ []) ∷ []) name ≡ terminal names (placed 0 0 ts)
   unfolding resolve described first_names joined_fields
   resolve-alone j =
-      let l = alone-line names ts k.names-free k.free in
+      let l = alone-line names ts k.names_free k.free in
       let w = walk-alone (with_colons (names ∷ ts) ++ 10 ∷ []) name (rw l sound-held) (rw l (sound-verdict j))
-      (rw (l, closed-size names ts k.names-stop k.stop) k.fits) in
-      rw (w, line-alone, l, closed-names names ts k.names-stop k.stop, closed-fields names ts k.names-stop k.stop, append-nil)
+      (rw (l, closed-size names ts k.names_stop k.stop) k.fits) in
+      rw (w, line-alone, l, closed-names names ts k.names_stop k.stop, closed-fields names ts k.names_stop k.stop, append-nil)

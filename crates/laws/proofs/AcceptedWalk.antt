@@ -173,10 +173,10 @@ module _ (db : List (List ℕ)) (l : Location) (after : List Location) where
   reach (last p f v h) (q ∷ before) from name g e =
       let t : [] ≡ before ++ l ∷ after = cc in
       absurd (no_end before l after t)
-  reach (next {seen = seen} p link {ps = ps} f v h w) (q ∷ before) from name g e =
+  reach (next {n = n} {seen = seen} p link {ps = ps} f v h w) (q ∷ before) from name g e =
       let t : ps ≡ before ++ l ∷ after = cc in
       let i : p ≡ q = cc in
-      let k = reach w before p.file link refl t in
+      let k = reach {n = n} w before p.file link refl t in
       let j : seen ++ p ∷ [] ++ before ≡ seen ++ q ∷ before = rw (← i) (append_assoc seen (p ∷ []) before) in
       record { room = k.room; fewer = omega (arith, k.fewer); size = k.size; from = k.from; name = k.name; way = rw (← j) k.way }
 

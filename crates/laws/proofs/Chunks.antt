@@ -133,7 +133,7 @@ closed_pair b c s k h = record {
   rest = h.rest;
   text = h.text;
   whole = ap (λ (l : List ℕ). b ∷ c ∷ l) h.whole;
-  is_chunk = pair_chunk b c h.chunk h.text k h.is-chunk;
+  is_chunk = pair_chunk b c h.chunk h.text k h.is_chunk;
   some = omega arith;
   ends = λ at size.
       let w = h.ends (at + 1 + 1) size in
@@ -142,7 +142,7 @@ closed_pair b c s k h = record {
 }
 
 closed-kept : (b c : ℕ) (s : List ℕ) → (b ≡ 10 → ⊥) → both (eqb b 92) (eqb c 10) ≡ false → Closed (c ∷ s) → Closed (b ∷ c ∷ s)
-closed-kept b c s n k h = go h.chunk h.whole h.is-chunk h.some h.ends
+closed-kept b c s n k h = go h.chunk h.whole h.is_chunk h.some h.ends
   where
     go : (d : List ℕ) → c ∷ s ≡ d ++ h.rest → Chunk d h.text → 0 < length d
         → ((at size : ℕ) → line_end size (join at (c ∷ s)) + 1 ≡ at + length d) → Closed (b ∷ c ∷ s)
@@ -222,7 +222,7 @@ module _ (db : List ℕ) where
           let there : drop i db ≡ c.rest =
           sym (drop-drop (length c.chunk) at db) ∙ ap (drop (length c.chunk)) (here ∙ c.whole) ∙ drop_at c.chunk c.rest _ refl in
           let rest : LineByLine db i c.rest = on c.rest i (omega (arith, c.some)) there (omega arith) in
-          rw c.whole (more at c.chunk c.text c.rest c.is-chunk (own_closed db s at here inside c) rest)
+          rw c.whole (more at c.chunk c.text c.rest c.is_chunk (own_closed db s at here inside c) rest)
 
   pub line-by-line : LineByLine db 0 db
   line-by-line = lines_from_lem (suc (length db)) db 0 (omega arith) refl (omega arith)

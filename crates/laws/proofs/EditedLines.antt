@@ -1,7 +1,7 @@
 -- The lines of a file of which one line is replaced: those before it stay, those behind it have the same texts at moved places.
 -- Assumes nothing.
 use Prim.Native.Nat.{ℕ, zero, suc, ◌+◌, ◌≤◌, ◌<◌}
-use mathlib.Core.Path.{◌≡◌, refl, sym}
+use mathlib.Core.Path.{◌≡◌, refl, sym, subst}
 use mathlib.Core.Bool.{Bool, true, false, not}
 use mathlib.Core.Logic.{◌⊎◌, inl, inr, ⊎_elim}
 use mathlib.Core.List.{List, [], ◌∷◌, ◌++◌}
@@ -117,53 +117,65 @@ ends_nil : (s : List ℕ) → ends_line (take 0 s) ≡ true → ⊥
 unfolding ends_line
 ends_nil s e = clash (sym e)
 
+-- The third case below, with what is known behind a pair and behind a byte.
+module _ (n : List ℕ) (i b c : ℕ) (s : List ℕ) (a : ℕ) where
+  rest : List Line
+  rest = later_lines (join (i + 1) (c ∷ s))
+
+  later : (k : Behind (i + 1) (c ∷ s) a) → both (eqb b 92) (eqb c 10) ≡ false → Behind i (b ∷ c ∷ s) a
+  unfolding ends_line
+  later k f = at k.count refl
+    where
+      at : (m : ℕ) → k.count ≡ m → Behind i (b ∷ c ∷ s) a
+      at zero q = absurd (ends_nil (c ∷ s) (rw q at k.ends))
+      at (suc m) q =
+          record {
+            count = suc (suc m);
+            place = omega (arith, k.place, q);
+            inside = omega (arith, k.inside, q);
+            ends = rw f (rw q at k.ends);
+          }
+
+  kept_behind : (y : Bool) → eqb b 10 ≡ y → both (eqb b 92) (eqb c 10) ≡ false → (find n rest ≡ At a → Behind (i + 1) (c ∷ s) a)
+      → find n (pick y (record { start = i + 1; text = line_text (join (i + 1) (c ∷ s)) } ∷ rest) rest) ≡ At a → Behind i (b ∷ c ∷ s) a
+  unfolding ends_line rest
+  kept_behind true h f keep q =
+      ⊎_elim (λ e. record { count = 1; place = e; inside = omega arith; ends = h }) (λ e. later (keep e) f) (find_cons n _ rest a q)
+  kept_behind false h f keep q = later (keep q) f
+
+  either_behind : (x : Bool) → both (eqb b 92) (eqb c 10) ≡ x
+      → find n (later_lines (pick x (join (i + 1 + 1) s) (byte b (i + 1) (join (i + 1) (c ∷ s))))) ≡ At a
+      → (find n (later_lines (join (i + 1 + 1) s)) ≡ At a → Behind (i + 1 + 1) s a)
+      → (find n (later_lines (join (i + 1) (c ∷ s))) ≡ At a → Behind (i + 1) (c ∷ s) a)
+      → Behind i (b ∷ c ∷ s) a
+  unfolding ends_line later_lines rest
+  either_behind true f q skip keep =
+      let k = skip q in
+      record {
+        count = suc (suc k.count);
+        place = omega (arith, k.place);
+        inside = omega (arith, k.inside);
+        ends = rw f k.ends;
+      }
+  either_behind false f q skip keep = kept_behind (eqb b 10) refl f keep q
+
+find_none : (n : List ℕ) (a : ℕ) → find n [] ≡ At a → ⊥
+unfolding find
+find_none n a e = cc
+
+last_behind : (n : List ℕ) (i b a : ℕ) (x : Bool) → eqb b 10 ≡ x → find n (pick x (record { start = i + 1; text = line_text end } ∷ []) []) ≡ At a
+    → Behind i (b ∷ []) a
+unfolding ends_line
+last_behind n i b a true h q =
+    ⊎_elim (λ e. record { count = 1; place = e; inside = omega arith; ends = h }) (λ e. absurd (find_none n a e)) (find_cons n _ [] a q)
+last_behind n i b a false h q = absurd (find_none n a q)
+
 found-behind : (n : List ℕ) (i : ℕ) (s : List ℕ) (a : ℕ) → find n (later_lines (join i s)) ≡ At a → Behind i s a
 unfolding join later_lines
-found-behind n i [] a e = unfold find in (let z : ◌≡◌ {A = ℕ} 0 1 = cc in absurd (omega arith))
-found-behind n i (b ∷ []) a e = go (eqb b 10) refl e
-  where
-    none : find n [] ≡ At a → Behind i (b ∷ []) a
-    none q = unfold find in (let z : ◌≡◌ {A = ℕ} 0 1 = cc in absurd (omega arith))
-
-    go : (x : Bool) → eqb b 10 ≡ x → find n (pick x (record { start = i + 1; text = line_text end } ∷ []) []) ≡ At a → Behind i (b ∷ []) a
-    go true h q = ⊎_elim (λ e. record { count = 1; place = e; inside = omega arith; ends = unfold ends_line in h }) none (find_cons n _ [] a q)
-    go false h q = none q
-found-behind n i (b ∷ c ∷ s) a e = go (both (eqb b 92) (eqb c 10)) refl e (found-behind n (i + 1 + 1) s a) (found-behind n (i + 1) (c ∷ s) a)
-  where
-    later : (k : Behind (i + 1) (c ∷ s) a) → both (eqb b 92) (eqb c 10) ≡ false → Behind i (b ∷ c ∷ s) a
-    later k f = at k.count refl
-      where
-        at : (m : ℕ) → k.count ≡ m → Behind i (b ∷ c ∷ s) a
-        at zero q = absurd (ends_nil (c ∷ s) (rw q at k.ends))
-        at (suc m) q =
-            record {
-              count = suc (suc m);
-              place = omega (arith, k.place, q);
-              inside = omega (arith, k.inside, q);
-              ends = unfold ends_line in (rw f (rw q at k.ends));
-            }
-
-    rest : List Line
-    rest = later_lines (join (i + 1) (c ∷ s))
-
-    kept : (y : Bool) → eqb b 10 ≡ y → both (eqb b 92) (eqb c 10) ≡ false → (find n rest ≡ At a → Behind (i + 1) (c ∷ s) a)
-        → find n (pick y (record { start = i + 1; text = line_text (join (i + 1) (c ∷ s)) } ∷ rest) rest) ≡ At a → Behind i (b ∷ c ∷ s) a
-    kept true h f keep q =
-        ⊎_elim (λ e. record { count = 1; place = e; inside = omega arith; ends = unfold ends_line in h }) (λ e. later (keep e) f) (find_cons n _ rest a q)
-    kept false h f keep q = later (keep q) f
-
-    go : (x : Bool) → both (eqb b 92) (eqb c 10) ≡ x → find n (later_lines (pick x (join (i + 1 + 1) s) (byte b (i + 1) (join (i + 1) (c ∷ s))))) ≡ At a
-        → (find n (later_lines (join (i + 1 + 1) s)) ≡ At a → Behind (i + 1 + 1) s a) → (find n rest ≡ At a → Behind (i + 1) (c ∷ s) a)
-        → Behind i (b ∷ c ∷ s) a
-    go true f q skip keep =
-        let k = skip q in
-        record {
-          count = suc (suc k.count);
-          place = omega (arith, k.place);
-          inside = omega (arith, k.inside);
-          ends = unfold ends_line in (rw f k.ends);
-        }
-    go false f q skip keep = kept (eqb b 10) refl f keep q
+found-behind n i [] a e = absurd (find_none n a e)
+found-behind n i (b ∷ []) a e = last_behind n i b a (eqb b 10) refl e
+found-behind n i (b ∷ c ∷ s) a e =
+    either_behind n i b c s a (both (eqb b 92) (eqb c 10)) refl e (found-behind n (i + 1 + 1) s a) (found-behind n (i + 1) (c ∷ s) a)
 
 -- ---- the lines of a file up to a line that is found, whatever stands from there on
 
@@ -177,7 +189,7 @@ ends_tail b c s e = go (eqb b 92) (eqb c 10) refl e
     newline (d ∷ s) h = h
 
     go : (x y : Bool) → eqb c 10 ≡ y → pick (both x y) (ends_line s) (ends_line (c ∷ s)) ≡ true → ends_line (c ∷ s) ≡ true
-    go true true f h = let i : c ≡ 10 = eqb-true c 10 f in rw i (newline s h)
+    go true true f h = subst (λ (d : ℕ). ends_line (d ∷ s) ≡ true) (sym (eqb-true c 10 f)) (newline s h)
     go true false f h = h
     go false y f h = h
 

@@ -62,12 +62,12 @@ module _ (db : Files) (name names : List ℕ) (fs : List Field) (accepted : term
   pub flat_no_newline : Free 10 flat_body
   flat_no_newline =
       let k = sound db name names fs accepted in
-      colons_free (names ∷ texts (winning fs)) (k.names-free, winning_free fs 10 k.free)
+      colons_free (names ∷ texts (winning fs)) (k.names_free, winning_free fs 10 k.free)
 
   pub flat_no_pair : NoJoinedPair (flat_text names fs)
   unfolding flat_text
   flat_no_pair =
       let k = sound db name names fs accepted in
       let e = colons_end names (texts (winning fs)) in
-      let h = open_free names (texts (winning fs)) k.names-free (winning_free fs 10 k.free) in
+      let h = open_free names (texts (winning fs)) k.names_free (winning_free fs 10 k.free) in
       rw (e, append_assoc (open_colons names (texts (winning fs))) (58 ∷ []) (10 ∷ [])) (closed_pair (open_colons names (texts (winning fs))) h)

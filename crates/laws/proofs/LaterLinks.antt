@@ -115,6 +115,7 @@ fresh_or p (k ∷ ks) = go (eqb k.at p) refl (fresh_or p ks)
 
 fresh_member : (q p : ℕ) (a b : List Link) → Fresh q (a ++ b) → Member p b → q ≡ p → ⊥
 fresh_member q p (j ∷ a) b f m e = fresh_member q p a b f.1 m e
+fresh_member q p [] [] f m e = elim m [ ]
 fresh_member q p [] (k ∷ b) f (inl h) e = f.0 (h ∙ sym e)
 fresh_member q p [] (k ∷ b) f (inr m) e = fresh_member q p [] b f.1 m e
 

@@ -40,7 +40,7 @@ no_names [] l h e = absurd (omega arith)
 no_names (b ∷ name) l h e = rw e
 
 names-some : (name names : List ℕ) (ts : List (List ℕ)) → Sound name names ts → good_name name ≡ true → 1 ≤ length names
-names-some name [] ts k g = clash (sym k.held.1 ∙ no_names name k.line (good-name-some name g) k.names-of)
+names-some name [] ts k g = clash (sym k.held.1 ∙ no_names name k.line (good-name-some name g) k.names_are)
 names-some name (b ∷ names) ts k g = omega arith
 
 -- ---- a winning field has two bytes or more

@@ -1,7 +1,7 @@
 -- An octal escape stands for the value of its digits, by the law that all digits are read by (DigitReading).
 -- Assumes nothing.
-use Prim.Native.Nat.{ℕ, zero, suc, ◌+◌, ◌-◌, ◌*◌, ◌≤◌, ◌<◌}
-use mathlib.Core.Path.{◌≡◌, refl, ap, sym, ◌∙◌}
+use Prim.Native.Nat.{ℕ, zero, suc, ◌+◌, ◌-◌, ◌*◌, ◌<◌}
+use mathlib.Core.Path.{◌≡◌, refl, ap, sym, ◌∙◌, subst}
 use mathlib.Core.Bool.{Bool, true, false}
 use mathlib.Core.List.{List, [], ◌∷◌, ◌++◌}
 use native.Mathlib.Omega.{arith}
@@ -39,7 +39,7 @@ all_three : (b : ℕ) (l : List ℕ) → octal b ≡ true → decode slash (b �
 unfolding decode escape_from
 all_three b l e =
     let first : 0 * 8 + (b - 48) ≡ b - 48 = omega arith in
-    rw (e, first) (last_two (b - 48) l)
+    rw e (subst (λ (v : ℕ). decode (one_digit (b - 48)) l ≡ escape_from 2 v l) (sym first) (last_two (b - 48) l))
 
 -- ---- over the width
 

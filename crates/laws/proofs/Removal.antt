@@ -3,7 +3,7 @@
 -- Assumes nothing.
 use Prim.Native.Nat.{ℕ, ◌+◌, ◌≤◌, ◌<◌}
 use mathlib.Core.Path.{◌≡◌, refl, ◌∙◌, sym}
-use mathlib.Core.Bool.{Bool, true, false, not}
+use mathlib.Core.Bool.{Bool, true, false}
 use mathlib.Core.List.{List, [], ◌∷◌, ◌++◌}
 use native.Mathlib.Omega.{arith}
 use borrow.Author.Tests.{eqb-true, ne_eqb}
@@ -265,10 +265,10 @@ removal_sound name names fs k =
     record {
       line = k.line;
       colon = k.colon;
-      names_of_lem = k.names-of;
+      names_are = k.names_are;
       held = k.held;
-      names_free = k.names-free;
-      names_stop = k.names-stop;
+      names_free = k.names_free;
+      names_stop = k.names_stop;
       free = removal_free 10 fs k.free;
       stop = removal_free 58 fs k.stop;
       fits = omega (arith, removal_size fs, k.fits);

@@ -1,7 +1,7 @@
 -- The winning fields: those that removal leaves. They answer each question as all the fields do, and each is the field that the lookup
 -- gives for its own name and kind.
 -- Assumes nothing.
-use Prim.Native.Nat.{ℕ, ◌+◌, ◌≤◌, ◌<◌}
+use Prim.Native.Nat.{ℕ, ◌≤◌, ◌<◌}
 use mathlib.Core.Path.{◌≡◌, refl, ◌∙◌, ap, sym}
 use mathlib.Core.Bool.{Bool, true, false, not}
 use mathlib.Core.List.{List, [], ◌∷◌, ◌++◌, append-nil}
@@ -14,7 +14,7 @@ use Rattle.laws.proofs.Tests.{clash}
 use Rattle.laws.proofs.AcceptedChain.{Sound}
 use Rattle.laws.proofs.WholeLines.{AllFree, equal_same}
 use Rattle.laws.proofs.Removal.{without, by_removal, win_no_cancel, AllWin, removal_wins, removal_same, removal_free, removal_size, removal_sound}
-use Rattle.laws.proofs.Removal.{lookup_removal, lookup-before_removal, lookup-cancel, lookup-hit, lookup_on}
+use Rattle.laws.proofs.Removal.{lookup_removal, lookup-cancel, lookup-hit, lookup_on}
 
 -- Whether a cancel of the name, or a field of the name and kind, was passed.
 unfoldable pub stopped : List ℕ → ℕ → List Reading → Bool

@@ -10,7 +10,7 @@ pub const LONGEST_LINE: u16 = 16384;
 // matched: how many bytes the present name has, all of them as in the asked name; 65 where one differs.
 // count: how many bytes of the line were collected, at most one more than the longest line has.
 #[repr(C)]
-#[derive(Drop)]
+#[derive(Clone, Copy)]
 pub struct LineState {
     pub stage: u8,
     pub matched: u8,
@@ -20,7 +20,7 @@ pub struct LineState {
 // held: the last byte was a backslash, and whether it vanishes is not known yet. ended: the end was declared. Both are 0 for no. The asked
 // name is the first `size` bytes of `name`.
 #[repr(C)]
-#[derive(Drop)]
+#[derive(Clone, Copy)]
 pub struct Finder {
     pub line: LineState,
     pub held: u8,

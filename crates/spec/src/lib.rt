@@ -1,5 +1,7 @@
 // The types that the definitions of specs/ and the code share: the answers of the operations, and the kinds of a capability.
 // The types of positions are in position.rt, that of a finder's state in finder.rt.
+#![tactic(auto)]
+
 ghost use Rattle.std.specs.Prelude.{◌≡◌};
 ghost use Rattle.spec.specs.Refusals.{refusal_number};
 ghost use Rattle.spec.specs.Fields.{kind_number, kind_of};
@@ -17,7 +19,7 @@ pub const MOST_FILES: usize = 8;
 pub const MOST_LINES: usize = 4096;
 
 // Why a call is refused. specs/Refusals gives each its number.
-#[derive(Drop)]
+#[derive(Clone, Copy)]
 pub enum Refusal {
     BadName,
     BadId,
@@ -65,7 +67,7 @@ impl Refusal {
 }
 
 // The kinds of a capability, and their numbers.
-#[derive(Drop)]
+#[derive(Clone, Copy)]
 pub enum Kind {
     Flag,
     Number,
@@ -73,7 +75,7 @@ pub enum Kind {
 }
 
 // The kind of a number, if it is the number of one.
-#[derive(Drop)]
+#[derive(Clone, Copy)]
 pub enum Numbered {
     Is(Kind),
     Nothing,
@@ -109,7 +111,7 @@ impl Kind {
 }
 
 // The answer to Flag, Number and String: the value, or the count of the bytes that were written.
-#[derive(Drop)]
+#[derive(Clone, Copy)]
 pub enum Answer {
     Present(u32),
     Absent,
@@ -118,14 +120,14 @@ pub enum Answer {
 
 // The answer of List, Flat, a batch, a finder, Send, Send at and its second half: the number of records, of answers, or of bytes, that were
 // written.
-#[derive(Drop)]
+#[derive(Clone, Copy)]
 pub enum Written {
     Count(usize),
     Refused(Refusal),
 }
 
 // The answer of Repair: the bytes of the mended database, and the number of records.
-#[derive(Drop)]
+#[derive(Clone, Copy)]
 pub enum Repaired {
     Counts(usize, usize),
     Refused(Refusal),
@@ -133,7 +135,7 @@ pub enum Repaired {
 
 // What goes between the two halves of Send at: the delay in tenths of a millisecond, before its star; the star; and the count of the
 // finished bytes, which are at the start of the first half's buffer.
-#[derive(Drop)]
+#[derive(Clone, Copy)]
 pub struct Finished {
     pub delay: u32,
     pub star: bool,
@@ -141,21 +143,21 @@ pub struct Finished {
 }
 
 // The answer of the first half of Send at.
-#[derive(Drop)]
+#[derive(Clone, Copy)]
 pub enum Fill {
     Finished(Finished),
     Refused(Refusal),
 }
 
 // The answer of Show: the part of the database from a place up to a place.
-#[derive(Drop)]
+#[derive(Clone, Copy)]
 pub enum Shown {
     Part(usize, usize),
     Refused(Refusal),
 }
 
 // The answer of the search that counts: the name is found, or is not; and how many names had bytes compared.
-#[derive(Drop)]
+#[derive(Clone, Copy)]
 pub enum Searched {
     Found(usize),
     Missing(usize),
@@ -163,21 +165,21 @@ pub enum Searched {
 }
 
 // The answer of a search for a line in one file: the place in it where the line starts.
-#[derive(Drop)]
+#[derive(Clone, Copy)]
 pub enum Found {
     At(usize),
     Nothing,
 }
 
 // A line of several files: the number of its file, from 0, and the place in it where it starts.
-#[derive(Drop)]
+#[derive(Clone, Copy)]
 pub struct Location {
     pub file: u8,
     pub at: usize,
 }
 
 // The answer of a search for a line in several files.
-#[derive(Drop)]
+#[derive(Clone, Copy)]
 pub enum Located {
     At(Location),
     Nothing,

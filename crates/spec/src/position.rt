@@ -3,28 +3,28 @@ use crate::Refusal;
 
 // A row and a column are types of their own, so that neither is ever taken for the other. Each holds its value plus 32,768: a value
 // may be negative, -32,768..32,767, and what is held is 0..65,535.
-#[derive(Drop)]
+#[derive(Clone, Copy)]
 pub struct Row(pub u16);
 
-#[derive(Drop)]
+#[derive(Clone, Copy)]
 pub struct Column(pub u16);
 
 // A parameter keeps its axis, also when it is exchanged.
-#[derive(Drop)]
+#[derive(Clone, Copy)]
 pub enum Parameter {
     Row(Row),
     Column(Column),
 }
 
 // A parameter that was used, and how many compensations its byte asks for.
-#[derive(Drop)]
+#[derive(Clone, Copy)]
 pub struct Used {
     pub parameter: Parameter,
     pub compensations: u8,
 }
 
 // The two parameters on the way: the unused ones in their present order, after the used ones in the order of their use.
-#[derive(Drop)]
+#[derive(Clone, Copy)]
 pub enum Parameters {
     TwoUnused(Parameter, Parameter),
     OneUnused(Used, Parameter),
@@ -32,21 +32,21 @@ pub enum Parameters {
 }
 
 // Whether bytes for rows are raised, and bytes for columns.
-#[derive(Drop)]
+#[derive(Clone, Copy)]
 pub struct Raising {
     pub rows: bool,
     pub columns: bool,
 }
 
 // A byte to be sent, and how many compensations it asks for.
-#[derive(Drop)]
+#[derive(Clone, Copy)]
 pub struct Raised {
     pub byte: u8,
     pub compensations: u8,
 }
 
 // A change of one value: %i, %n, %>xy, %B, %D.
-#[derive(Drop)]
+#[derive(Clone, Copy)]
 pub enum Change {
     Increment,
     Xor,
@@ -56,7 +56,7 @@ pub enum Change {
 }
 
 // The changed value as it is held, or out of its range.
-#[derive(Drop)]
+#[derive(Clone, Copy)]
 pub enum Changed {
     To(u16),
     OutOfRange,
@@ -64,7 +64,7 @@ pub enum Changed {
 
 // A percent sequence: %%; %d, %2, %3 with their least width; %+c (%. adds 0); a change of every unused parameter (%i, %n) or of the
 // next one (%>xy, %B, %D); %r.
-#[derive(Drop)]
+#[derive(Clone, Copy)]
 pub enum Sequence {
     Percent,
     Decimal(u8),
@@ -75,7 +75,7 @@ pub enum Sequence {
 }
 
 // What is still to be read of a percent sequence: its letter, the byte of %+c, the first and the second byte of %>xy.
-#[derive(Drop)]
+#[derive(Clone, Copy)]
 pub enum Pending {
     Letter,
     Added,
@@ -84,7 +84,7 @@ pub enum Pending {
 }
 
 // A percent sequence after one more byte: it goes on, it is whole, or there is none such.
-#[derive(Drop)]
+#[derive(Clone, Copy)]
 pub enum Progress {
     More(Pending),
     Whole(Sequence),
@@ -92,7 +92,7 @@ pub enum Progress {
 }
 
 // What a sequence writes: nothing, a byte, or a number in decimal with at least so many digits.
-#[derive(Drop)]
+#[derive(Clone, Copy)]
 pub enum Output {
     Nothing,
     Single(u8),
@@ -100,7 +100,7 @@ pub enum Output {
 }
 
 // What a sequence does: it writes, and leaves the parameters so; or it is refused.
-#[derive(Drop)]
+#[derive(Clone, Copy)]
 pub enum Effect {
     Gives(Output, Parameters),
     Refused(Refusal),
