@@ -1,12 +1,10 @@
 -- Fields taken into the tables: none, one by what it is read as, and one part after another.
 -- Assumes nothing.
 use Prim.Native.Nat.{ℕ, ◌+◌, ◌≤◌, ◌<◌}
-use mathlib.Core.Path.{◌≡◌}
+use mathlib.Core.Path.{refl, ◌≡◌}
 use mathlib.Core.Bool.{false}
 use mathlib.Core.List.{List, [], ◌∷◌, ◌++◌, append-nil, append_assoc}
 use lib.ListN.{length, get_or}
-use denote.Enum.Declared.{tag_of}
-use types.Run.{OneOf, miss}
 use Rattle.spec.specs.Lines.{line_at}
 use Rattle.spec.specs.Fields.{Content, cancel, capability, reading, split, fields_of, content_kind, content_value}
 use Rattle.spec.specs.Chain.{Field, placed}
@@ -18,7 +16,6 @@ use Rattle.field_bounds.specs.Answers.{field_at}
 use Rattle.fields.specs.Readings.{Reads}
 use Rattle.fields.specs.declared.FieldRead.{FieldRead}
 use Rattle.fields.specs.declared.FieldRead.TheVariants.{Malformed, Ignored, Link, Cancel, Flag, Number, String}
-use Rattle.fields.specs.contracts.FieldRead.{the_type}
 use Rattle.chain.proofs.JoinedFields.{fields_from, from_next}
 use Rattle.capability_table.specs.Table.{marked}
 use Rattle.capability_table.specs.Answers.{kept_marks, kept_values}
@@ -42,16 +39,16 @@ module _ (place file : ℕ) (text m v : List ℕ) where
   noted_kept a b c m' v' e some s u = rw (s, u) (λ fs w. kept-answers fs here m v w a b c e some)
 
 -- malformed, ignored, or a link: the answers that the arm `_` takes together, by their tags
-pub noted_none : (s : List ℕ) (at place file : ℕ) (read : FieldRead) (m v : List ℕ) → Reads s at read → OneOf (0 ∷ 1 ∷ 2 ∷ []) (tag_of the_type read)
+pub noted_none : (s : List ℕ) (at place file : ℕ) (read : FieldRead) (m v : List ℕ) → Reads s at read → ((a b : ℕ) → read ≡ Cancel a b → ⊥) → ((a b : ℕ) → read ≡ Flag a b → ⊥) → ((a b n : ℕ) → read ≡ Number a b n → ⊥) → ((a b text n : ℕ) → read ≡ String a b text n → ⊥)
     → Notes (record { place = place; file = file; text = field_at s at } ∷ []) m v m v
 unfolding matches
-noted_none s at place file Malformed m v h o = noted_other place file (field_at s at) m v (λ id k. rw h)
-noted_none s at place file Ignored m v h o = noted_other place file (field_at s at) m v (λ id k. rw h)
-noted_none s at place file (Link name) m v h o = noted_other place file (field_at s at) m v (λ id k. rw h.0)
-noted_none s at place file (Cancel a b) m v h o = absurd (miss (0 ∷ 1 ∷ 2 ∷ []) 3 tt o)
-noted_none s at place file (Flag a b) m v h o = absurd (miss (0 ∷ 1 ∷ 2 ∷ []) 4 tt o)
-noted_none s at place file (Number a b n) m v h o = absurd (miss (0 ∷ 1 ∷ 2 ∷ []) 5 tt o)
-noted_none s at place file (String a b text n) m v h o = absurd (miss (0 ∷ 1 ∷ 2 ∷ []) 6 tt o)
+noted_none s at place file Malformed m v h o0 o1 o2 o3 = noted_other place file (field_at s at) m v (λ id k. rw h)
+noted_none s at place file Ignored m v h o0 o1 o2 o3 = noted_other place file (field_at s at) m v (λ id k. rw h)
+noted_none s at place file (Link name) m v h o0 o1 o2 o3 = noted_other place file (field_at s at) m v (λ id k. rw h.0)
+noted_none s at place file (Cancel a b) m v h o0 o1 o2 o3 = absurd (o0 a b refl)
+noted_none s at place file (Flag a b) m v h o0 o1 o2 o3 = absurd (o1 a b refl)
+noted_none s at place file (Number a b n) m v h o0 o1 o2 o3 = absurd (o2 a b n refl)
+noted_none s at place file (String a b text n) m v h o0 o1 o2 o3 = absurd (o3 a b text n refl)
 
 -- ---- one part after another
 

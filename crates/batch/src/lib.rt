@@ -1,5 +1,7 @@
 // A screenful of questions at once: one walk, one pass over the fields of the chain into a table of what answers for each name and kind,
 // and one over the questions.
+#![tactic(auto)]
+
 ghost use Rattle.std.specs.Prelude.{◌≡◌, true, ◌∷◌, ◌*◌, ◌/◌, ◌≤◌, ◌<◌, length};
 ghost use Rattle.std.proofs.lemmas.List.Edits.{sets};
 ghost use Rattle.spec.specs.Lines.{line_at};
@@ -28,7 +30,7 @@ const QUESTION_SIZE: usize = 4;
 const ANSWER_SIZE: usize = 8;
 
 // The four bytes of a question: "id, kind 1 to 3, a zero".
-#[derive(Drop)]
+#[derive(Clone, Copy)]
 struct Question(u8, u8, u8, u8);
 
 // The first byte of an answer.

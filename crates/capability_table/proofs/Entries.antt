@@ -67,7 +67,7 @@ module _ (a b k : ℕ) where
 
 -- each has a place in the table, and none another's
 pub key_inside : (a b k : ℕ) → Entry a b k → key_of a b < 8836
-key_inside a b k n = omega (arith, n.first-low, n.first-high, n.second-low, n.second-high)
+key_inside a b k n = omega (arith, n.first_low, n.first_high, n.second_low, n.second_high)
 
 -- a value's place: that of the kind, then that of the name
 pub kind_some : (k : Kind) → 1 ≤ kind_number k
@@ -80,10 +80,10 @@ value-inside a b k n = omega (arith, key_inside a b k n, n.kind)
 
 module _ (a b k x y j : ℕ) (n : Entry a b k) (m : Entry x y j) (e : key_of a b ≡ key_of x y) where
   key_first : a ≡ x
-  key_first = omega (arith, n.first-low, n.second-low, n.second-high, m.first-low, m.second-low, m.second-high)
+  key_first = omega (arith, n.first_low, n.second_low, n.second_high, m.first_low, m.second_low, m.second_high)
 
   key_second : b ≡ y
-  key_second = omega (arith, key_first, n.first-low, n.second-low, n.second-high, m.first-low, m.second-low, m.second-high)
+  key_second = omega (arith, key_first, n.first_low, n.second_low, n.second_high, m.first_low, m.second_low, m.second_high)
 
 module _ (a b k x y j : ℕ) (n : Entry a b k) (m : Entry x y j) where
   same_names : same (x ∷ y ∷ []) (a ∷ b ∷ []) ≡ true → key_of x y ≡ key_of a b

@@ -1,5 +1,7 @@
 // Tables of capabilities: a byte for each name of two bytes 33..126, with a bit for a cancel and one for each kind. In a table of zeros
 // nothing was met. Listing marks what was met; a batch marks what answers, and keeps its value.
+#![tactic(auto)]
+
 ghost use Rattle.std.specs.Prelude.{◌≡◌, ◌≤◌, eqb};
 ghost use Rattle.spec.specs.Fields.{kind_number};
 ghost use Rattle.capability_table.specs.Table.{has_entry, key_of, bit_of, with_bit, is_open, is_first, marked};

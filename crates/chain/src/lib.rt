@@ -1,4 +1,6 @@
 // The walk from a name along its links, over several files.
+#![tactic(auto)]
+
 ghost use Rattle.std.specs.Prelude.{◌≡◌, ◌+◌, ◌≤◌, ◌<◌, length, set, eqb};
 ghost use Rattle.spec.specs.Choice.{both};
 ghost use Rattle.spec.specs.Files.{files, contents, find_from};
@@ -15,20 +17,20 @@ use spec::{Located, Location, Refusal};
 pub const MOST_DESCRIPTIONS: usize = 32;
 
 // The lines of a chain, in order: the first `count` of `lines`.
-#[derive(Drop)]
+#[derive(Clone, Copy)]
 pub struct Chain {
     pub lines: [Location; MOST_DESCRIPTIONS],
     pub count: usize,
 }
 
 // How a walk ended.
-#[derive(Drop)]
+#[derive(Clone, Copy)]
 pub enum Ended {
     Accepted,
     Refused(Refusal),
 }
 
-#[derive(Drop)]
+#[derive(Clone, Copy)]
 pub struct Walk {
     pub ended: Ended,
     pub chain: Chain,

@@ -5,8 +5,6 @@ use mathlib.Core.Path.{◌≡◌, refl, ◌∙◌, ap}
 use mathlib.Core.Bool.{Bool, true, false}
 use mathlib.Core.List.{List, [], ◌∷◌}
 use native.Mathlib.Omega.{arith}
-use denote.Enum.Declared.{tag_of}
-use types.Run.{OneOf, miss}
 use lib.ListN.{length}
 use Rattle.spec.specs.Choice.{pick}
 use Rattle.spec.specs.Lines.{line_at}
@@ -17,18 +15,17 @@ use Rattle.field_bounds.proofs.LineBounds.{size_bound}
 use Rattle.fields.specs.Readings.{Reads}
 use Rattle.fields.specs.declared.FieldRead.{FieldRead}
 use Rattle.fields.specs.declared.FieldRead.TheVariants.{Malformed, Ignored, Link, Cancel, Flag, Number, String}
-use Rattle.fields.specs.contracts.FieldRead.{the_type}
 use Rattle.descriptions.specs.Judgement.{linked, FieldsJudged}
 use Rattle.descriptions.specs.declared.Judged.TheVariants.{Malformed as MalformedLine, Ends, Links}
 
--- ---- the answers that an arm `_` takes together, by their tags
+-- ---- the answers that an arm `_` takes together
 
 -- all but an ignored field
-pub not_ignored : (s : List ℕ) (at : ℕ) (r : FieldRead) → Reads s at r → OneOf (0 ∷ 2 ∷ 3 ∷ 4 ∷ 5 ∷ 6 ∷ []) (tag_of the_type r)
+pub not_ignored : (s : List ℕ) (at : ℕ) (r : FieldRead) → Reads s at r → (r ≡ Ignored → ⊥)
     → is_ignored_field (reading (field_at s at)) ≡ false
 unfolding is_ignored_field
 not_ignored s at Malformed h t = rw h
-not_ignored s at Ignored h t = absurd (miss (0 ∷ 2 ∷ 3 ∷ 4 ∷ 5 ∷ 6 ∷ []) 1 tt t)
+not_ignored s at Ignored h t = absurd (t refl)
 not_ignored s at (Link name) h t = rw h.0
 not_ignored s at (Cancel a b) h t = rw h
 not_ignored s at (Flag a b) h t = rw h
@@ -36,15 +33,15 @@ not_ignored s at (Number a b v) h t = rw h
 not_ignored s at (String a b text n) h t = rw h.1
 
 -- all but a malformed field and a link
-pub judge_on : (s : List ℕ) (at : ℕ) (fs : List (List ℕ)) (r : FieldRead) → Reads s at r → OneOf (1 ∷ 3 ∷ 4 ∷ 5 ∷ 6 ∷ []) (tag_of the_type r)
-    → judge (field_at s at ∷ fs) ≡ judge fs
-judge_on s at fs Malformed h t = absurd (miss (1 ∷ 3 ∷ 4 ∷ 5 ∷ 6 ∷ []) 0 tt t)
-judge_on s at fs Ignored h t = judge-ignored _ fs h
-judge_on s at fs (Link name) h t = absurd (miss (1 ∷ 3 ∷ 4 ∷ 5 ∷ 6 ∷ []) 2 tt t)
-judge_on s at fs (Cancel a b) h t = judge_entry _ fs a b _ h
-judge_on s at fs (Flag a b) h t = judge_entry _ fs a b _ h
-judge_on s at fs (Number a b v) h t = judge_entry _ fs a b _ h
-judge_on s at fs (String a b text n) h t = judge_entry _ fs a b _ h.1
+pub judge_on : (s : List ℕ) (at : ℕ) (fs : List (List ℕ)) (r : FieldRead) → Reads s at r → (r ≡ Malformed → ⊥)
+    → ((name : ℕ) → r ≡ Link name → ⊥) → judge (field_at s at ∷ fs) ≡ judge fs
+judge_on s at fs Malformed h t u = absurd (t refl)
+judge_on s at fs Ignored h t u = judge-ignored _ fs h
+judge_on s at fs (Link name) h t u = absurd (u name refl)
+judge_on s at fs (Cancel a b) h t u = judge_entry _ fs a b _ h
+judge_on s at fs (Flag a b) h t u = judge_entry _ fs a b _ h
+judge_on s at fs (Number a b v) h t u = judge_entry _ fs a b _ h
+judge_on s at fs (String a b text n) h t u = judge_entry _ fs a b _ h.1
 
 -- ---- the size of the fields passed
 

@@ -1,4 +1,6 @@
 // A description judged by its fields: what a line says, and its size.
+#![tactic(auto)]
+
 ghost use Rattle.std.specs.Prelude.{◌+◌, ◌^◌, ◌<◌, ◌≡◌};
 ghost use Rattle.spec.specs.Lines.{line_at};
 ghost use Rattle.spec.specs.Fields.{split, size as size_of};
@@ -8,7 +10,7 @@ use field_bounds::{AfterNames, after_names};
 use fields::{FieldRead, NextField, next_field};
 
 // What a line says: it is malformed; it ends the chain, and has that size; or it has that size and links to the name at a place.
-#[derive(Drop)]
+#[derive(Clone, Copy)]
 pub enum Judged {
     Malformed,
     Ends(usize),
@@ -16,7 +18,7 @@ pub enum Judged {
 }
 
 // The size of the fields after a link, or that they are not all ignored.
-#[derive(Drop)]
+#[derive(Clone, Copy)]
 enum Rest {
     Ignored(usize),
     Other,

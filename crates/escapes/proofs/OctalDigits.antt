@@ -8,7 +8,7 @@ use native.Mathlib.Omega.{arith}
 use borrow.Author.Tests.{le-leb, lt-leb}
 use lib.ListN.{length}
 use Rattle.spec.specs.Digits.{is_digit}
-use Rattle.spec.specs.Strings.{one_digit, bad, slash, decode}
+use Rattle.spec.specs.Strings.{one_digit, slash, decode}
 use Rattle.laws.proofs.DigitBytes.{digit_is, digit_not}
 use Rattle.laws.proofs.DigitReading.{ReadSoFar, read_none, read_more, read_below}
 use Rattle.laws.proofs.FieldSteps.{decode_first}

@@ -1,4 +1,6 @@
 // The text of a string: the bytes that it stands for, with its escapes read.
+#![tactic(auto)]
+
 ghost use Rattle.std.specs.Prelude.{◌-◌, ◌≡◌, true};
 ghost use Rattle.spec.specs.Digits.{is_digit};
 ghost use Rattle.spec.specs.Strings.{escaped, plain, slash, caret, one_digit};
@@ -14,7 +16,7 @@ const OCTAL_DIGITS: usize = 3;
 const OCTAL_LIMIT: u16 = 255;
 
 // The count of the bytes that a string's text stands for, or a fault in it.
-#[derive(Drop)]
+#[derive(Clone, Copy)]
 pub enum Decoding {
     Good(usize),
     Bad,
@@ -22,7 +24,7 @@ pub enum Decoding {
 
 // The count of the bytes that a string's text stands for, or a fault in it; then the place where the reader stopped, and the count of the
 // text's bytes up to there.
-#[derive(Drop)]
+#[derive(Clone, Copy)]
 pub enum Measured {
     Good(usize, usize, usize),
     Bad(usize, usize),
@@ -30,7 +32,7 @@ pub enum Measured {
 
 // A byte that a string's text stands for, with the place after what is written for it and the count of the bytes that are; the text's
 // end; or a fault in it.
-#[derive(Drop)]
+#[derive(Clone, Copy)]
 enum TextStep {
     Byte(u8, usize, usize),
     End,

@@ -1,5 +1,7 @@
 // The bytes of a field: where it ends, where the next one starts, and where those of a line start. A place is an index of the database,
 // or of a part of it.
+#![tactic(auto)]
+
 ghost use Rattle.std.specs.Prelude.{◌≡◌, length};
 ghost use Rattle.std.proofs.lemmas.List.Edits.{sets};
 ghost use Rattle.field_bounds.specs.Answers.{field_at, FieldStep, ColonFound, Bounded, NamesPassed};
@@ -9,14 +11,14 @@ use stores::put_after;
 
 // The field at a place: none is left; or one of so many joined bytes, with the place behind it: behind its colon, or the end of `s` for a
 // last one.
-#[derive(Drop)]
+#[derive(Clone, Copy)]
 pub enum Bounds {
     Nothing,
     Field(usize, usize),
 }
 
 // Where the fields of a line start, and how many bytes its names have.
-#[derive(Drop)]
+#[derive(Clone, Copy)]
 pub enum AfterNames {
     At(usize, usize),
     NoColon,
@@ -24,7 +26,7 @@ pub enum AfterNames {
 
 // The colon that ends the field at a place: the field's length and the place after the colon; or the line ends without one, after so
 // many bytes.
-#[derive(Drop)]
+#[derive(Clone, Copy)]
 enum Colon {
     After(usize, usize),
     Missing(usize),

@@ -12,7 +12,7 @@ use lib.ListN.{length}
 use Rattle.spec.specs.Choice.{pick, both, either}
 use Rattle.spec.specs.Lines.{blank}
 use Rattle.spec.specs.Refusals.{good_name, id_byte, is_tc, id_bytes}
-use Rattle.spec.specs.Fields.{Reading, malformed, ignored, link, content_reading, link_reading, named_reading, reading}
+use Rattle.spec.specs.Fields.{malformed, ignored, link, content_reading, link_reading, named_reading, reading}
 use Rattle.laws.proofs.Tests.{both_false, clash}
 use Rattle.fields.specs.Readings.{starts, other_reading, name_reading}
 use Rattle.fields.proofs.Names.{id_outside, id_first, blank-next, blank-stops}

@@ -1,7 +1,7 @@
 -- A number's digits read one by one, in the base that the definition gives them.
 -- Assumes nothing.
 use Prim.Native.Nat.{ℕ, ◌+◌, ◌-◌, ◌*◌, ◌^◌, ◌≤◌, ◌<◌}
-use mathlib.Core.Path.{◌≡◌, refl, sym, ◌∙◌, ap}
+use mathlib.Core.Path.{◌≡◌, sym, ◌∙◌, ap}
 use mathlib.Core.Bool.{true, false}
 use mathlib.Core.List.{List, [], ◌∷◌}
 use native.Mathlib.Nat.{pow-le-pow_left}
@@ -81,7 +81,7 @@ long l h = rw (lt-leb (length l) 6 h, both_false (leb 1 (length l)))
 -- at most six digits, in a base of at most ten
 counted-small : (base : ℕ) (s : List ℕ) (at i k v : ℕ) → Counted base s at i k v → v < 1000000
 counted-small base s at i k v q =
-    let range = rw q.in-base at (base_range (field_at s at)) in
+    let range = rw q.in_base at (base_range (field_at s at)) in
     let below : v < base ^ 6 = read_below base _ _ k v q.read 6 q.few range.0 in
     let top : base ^ 6 ≤ 10 ^ 6 = pow-le-pow_left range.1 6 in
     omega arith
@@ -93,12 +93,12 @@ module _ (base : ℕ) (s : List ℕ) (at i k v : ℕ) (q : Counted base s at i k
 
     pub counted_not : is_digit base b ≡ false → good_number (field_at s at) ≡ false
     unfolding are_digits
-    counted_not d = bad_digit (field_at s at) (rw q.in-base (read_digits base _ _ k v q.read ∙ rw (e, d)))
+    counted_not d = bad_digit (field_at s at) (rw q.in_base (read_digits base _ _ k v q.read ∙ rw (e, d)))
 
     pub counted_on : Passed s i n 1 → is_digit base b ≡ true → k < 6 → Counted base s at n (k + 1) (v * base + (b - 48))
     counted_on p d h = record {
       few = omega arith;
-      in_base = q.in-base;
+      in_base = q.in_base;
       passed = passed_over s at i n k 1 q.passed p;
       read = read_more base _ _ k v q.read b (field_at s n) e d;
     }
@@ -110,7 +110,7 @@ module _ (base : ℕ) (s : List ℕ) (at i k v : ℕ) (q : Counted base s at i k
   module _ (e : field_at s i ≡ []) where
     counted-value : number_value (field_at s at) ≡ v
     unfolding number_value value_from
-    counted-value = rw q.in-base (read_value_lem base _ _ k v q.read ∙ rw e)
+    counted-value = rw q.in_base (read_value_lem base _ _ k v q.read ∙ rw e)
 
     pub counted_empty : k ≡ 0 → good_number (field_at s at) ≡ false
     counted_empty h =
@@ -123,6 +123,6 @@ module _ (base : ℕ) (s : List ℕ) (at i k v : ℕ) (q : Counted base s at i k
     pub counted-good : (k ≡ 0 → ⊥) → v ≤ 65535 → (good_number (field_at s at) ≡ true) × (number_value (field_at s at) ≡ v)
     unfolding good_number are_digits
     counted-good h m =
-        let all : are_digits (number_base (field_at s at)) (field_at s at) ≡ true = rw q.in-base (read_digits base _ _ k v q.read ∙ rw e) in
+        let all : are_digits (number_base (field_at s at)) (field_at s at) ≡ true = rw q.in_base (read_digits base _ _ k v q.read ∙ rw e) in
         let length-is : length (field_at s at) ≡ k = omega (arith, q.passed.count, ap length e) in
         (rw (all, counted-value, length-is, le-leb v 65535 m, le-leb k 6 q.few, le-leb 1 k (omega arith)), counted-value)

@@ -1,4 +1,6 @@
 // What a field is read as: one field read at a place of the part of the database that starts after a line's names.
+#![tactic(auto)]
+
 ghost use Rattle.std.specs.Prelude.{◌≤◌, ◌≡◌, ◌∷◌};
 ghost use Rattle.spec.specs.Choice.{pick};
 ghost use Rattle.spec.specs.Digits.{is_digit};
@@ -28,7 +30,7 @@ const NUMBER_LIMIT: u32 = 65535;
 
 // What a field is read as: a link with the place of its name; a capability by the two bytes of its name, with its number, or with the
 // place of its text and the count of its decoded bytes.
-#[derive(Drop)]
+#[derive(Clone, Copy)]
 pub enum FieldRead {
     Malformed,
     Ignored,
@@ -40,25 +42,25 @@ pub enum FieldRead {
 }
 
 // The fields from a place on: none; or one that is read so, of so many joined bytes, with the place behind it.
-#[derive(Drop)]
+#[derive(Clone, Copy)]
 pub enum NextField {
     Nothing,
     Field(FieldRead, usize, usize),
 }
 
 // What a field is read as, the place where the reader stopped, and how many of the field's bytes stand before that place.
-#[derive(Drop)]
+#[derive(Clone, Copy)]
 struct Stopped(FieldRead, usize, usize);
 
 // The place after the bytes that a field starts with, or that it starts otherwise.
-#[derive(Drop)]
+#[derive(Clone, Copy)]
 enum AfterStart {
     At(usize),
     Other,
 }
 
 // The value of a number's digits, or a fault in them; then the place where the reader stopped, and how many bytes it passed.
-#[derive(Drop)]
+#[derive(Clone, Copy)]
 enum Digits {
     Value(u32, usize, usize),
     Bad(usize, usize),

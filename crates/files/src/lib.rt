@@ -1,5 +1,7 @@
 // Several files in one lent buffer: their ends, the part that is a file, and the search from a file onwards. In each file the search is that
 // of one database.
+#![tactic(auto)]
+
 ghost use Rattle.std.specs.Prelude.{◌≡◌, ◌≤◌, length};
 ghost use Rattle.spec.specs.Files.{files, good_ends, contents, file_start, file_at, find_from};
 

@@ -1,5 +1,7 @@
 // The finder of document 02, Ask 8: it is fed a database in blocks and collects the joined line of the first description with the asked
 // name. Here the state goes in by value and comes back; the C functions are lent it, and change it where it stands.
+#![tactic(auto)]
+
 ghost use Rattle.std.specs.Prelude.{◌≡◌, ◌≤◌, length};
 ghost use Rattle.spec.specs.Answers.{written_report};
 ghost use Rattle.spec.specs.Finder.{begun, with_zeros, opened_finder, open_refusal, turn, feed_turn, end_turn, line_copied, finder_outcome, finder_report};
@@ -11,7 +13,7 @@ use spec::{Refusal, Written};
 use stores::put_bytes;
 
 // What a call gives: the finder afterwards, and the refusal's number, or 0.
-#[derive(Drop)]
+#[derive(Clone, Copy)]
 pub struct Turn {
     pub finder: Finder,
     pub refusal: u32,

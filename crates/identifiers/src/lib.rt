@@ -1,4 +1,6 @@
 // The asked name and the asked id: refusals 1 and 2.
+#![tactic(auto)]
+
 ghost use Rattle.std.specs.Prelude.{◌≡◌};
 ghost use Rattle.spec.specs.Refusals.{good_name, good_id};
 

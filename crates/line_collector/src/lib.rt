@@ -1,5 +1,7 @@
 // The line of a name, collected from bytes as they arrive: the machine of a finder, a byte at a time and in blocks. It knows the joined line
 // so far and whether a backslash is held; the calls of a finder are in the crate above.
+#![tactic(auto)]
+
 ghost use Rattle.std.specs.Prelude.{◌≡◌, true, false, List, ◌⊎◌, ℕ, ◌+◌, ◌≤◌, ◌<◌, length, get_or, take, drop, eqb};
 ghost use Rattle.spec.specs.Choice.{pick, both, either};
 ghost use Rattle.spec.specs.Refusals.{name_byte};
@@ -25,7 +27,7 @@ pub const COMPLETE: u8 = 4;
 const DIFFERS: u8 = 65;
 
 // Where a finder stands between two bytes.
-#[derive(Drop)]
+#[derive(Clone, Copy)]
 pub struct Place {
     pub held: u8,
     pub line: LineState,
@@ -290,7 +292,7 @@ fn next_newline(s: &[u8], from: usize) -> usize
 }
 
 // A place in a block, and how the finder stands before the byte there.
-#[derive(Drop)]
+#[derive(Clone, Copy)]
 pub struct Step {
     pub place: Place,
     pub next: usize,

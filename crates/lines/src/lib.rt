@@ -1,19 +1,21 @@
 // The lines of a termcap database and their names. A place is an index of the raw database. The joined text at a place is what
 // stands from there on once each backslash that a newline follows has vanished with that newline.
+#![tactic(auto)]
+
 ghost use Rattle.std.specs.Prelude.{◌≡◌, eqb, length};
 ghost use Rattle.spec.specs.Lists.{same};
 ghost use Rattle.spec.specs.Lines.{text_at, line_text, blank, is_ignored, first_name, extent};
 ghost use Rattle.lines.specs.Answers.{Peeked, NextName, NextLine};
 
 // What the joined text at a place starts with: a byte, with the place after it, or the end of the database.
-#[derive(Drop)]
+#[derive(Clone, Copy)]
 pub enum Step {
     Byte(u8, usize),
     End,
 }
 
 // The place where the next name, or the next line, starts, if there is one.
-#[derive(Drop)]
+#[derive(Clone, Copy)]
 pub enum Next {
     To(usize),
     Last,

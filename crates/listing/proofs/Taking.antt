@@ -3,9 +3,7 @@
 use Prim.Native.Nat.{ℕ}
 use mathlib.Core.Path.{◌≡◌, refl, sym}
 use mathlib.Core.Bool.{Bool, true, false, not}
-use mathlib.Core.List.{List, [], ◌∷◌}
-use denote.Enum.Declared.{tag_of}
-use types.Run.{OneOf, miss}
+use mathlib.Core.List.{List}
 use Rattle.spec.specs.Fields.{Content, cancel, Reading, malformed, ignored, link, capability, reading, content_kind, content_value}
 use Rattle.spec.specs.Lookup.{matches, can_win, hidden}
 use Rattle.spec.specs.Listing.{record_of}
@@ -13,7 +11,6 @@ use Rattle.field_bounds.specs.Answers.{field_at}
 use Rattle.fields.specs.Readings.{Reads}
 use Rattle.fields.specs.declared.FieldRead.{FieldRead}
 use Rattle.fields.specs.declared.FieldRead.TheVariants.{Malformed, Ignored, Link, Cancel, Flag, Number, String}
-use Rattle.fields.specs.contracts.FieldRead.{the_type}
 use Rattle.capability_table.specs.Table.{is_first, marked}
 use Rattle.capability_table.proofs.Marking.{other-marks, capability-marks, first_open}
 use Rattle.listing.specs.Answers.{won_if, WonAfter, TookReading}
@@ -21,16 +18,16 @@ use Rattle.listing.specs.declared.Won.{Won}
 use Rattle.listing.specs.declared.Won.TheVariants.{No}
 
 -- malformed, ignored, or a link: the answers that the arm `_` takes together, by their tags
-pub took_other : (s : List ℕ) (at : ℕ) (read : FieldRead) (t : List ℕ) → Reads s at read → OneOf (0 ∷ 1 ∷ 2 ∷ []) (tag_of the_type read)
+pub took_other : (s : List ℕ) (at : ℕ) (read : FieldRead) (t : List ℕ) → Reads s at read → ((a b : ℕ) → read ≡ Cancel a b → ⊥) → ((a b : ℕ) → read ≡ Flag a b → ⊥) → ((a b v : ℕ) → read ≡ Number a b v → ⊥) → ((a b text n : ℕ) → read ≡ String a b text n → ⊥)
     → TookReading (reading (field_at s at)) t t No
 unfolding matches can_win
-took_other s at Malformed t h o = rw h (λ qs m. (other-marks malformed qs t (λ id k. refl) m, refl))
-took_other s at Ignored t h o = rw h (λ qs m. (other-marks ignored qs t (λ id k. refl) m, refl))
-took_other s at (Link name) t h o = rw h.0 (λ qs m. (other-marks (link (field_at s name)) qs t (λ id k. refl) m, refl))
-took_other s at (Cancel a b) t h o = absurd (miss (0 ∷ 1 ∷ 2 ∷ []) 3 tt o)
-took_other s at (Flag a b) t h o = absurd (miss (0 ∷ 1 ∷ 2 ∷ []) 4 tt o)
-took_other s at (Number a b v) t h o = absurd (miss (0 ∷ 1 ∷ 2 ∷ []) 5 tt o)
-took_other s at (String a b text n) t h o = absurd (miss (0 ∷ 1 ∷ 2 ∷ []) 6 tt o)
+took_other s at Malformed t h o0 o1 o2 o3 = rw h (λ qs m. (other-marks malformed qs t (λ id k. refl) m, refl))
+took_other s at Ignored t h o0 o1 o2 o3 = rw h (λ qs m. (other-marks ignored qs t (λ id k. refl) m, refl))
+took_other s at (Link name) t h o0 o1 o2 o3 = rw h.0 (λ qs m. (other-marks (link (field_at s name)) qs t (λ id k. refl) m, refl))
+took_other s at (Cancel a b) t h o0 o1 o2 o3 = absurd (o0 a b refl)
+took_other s at (Flag a b) t h o0 o1 o2 o3 = absurd (o1 a b refl)
+took_other s at (Number a b v) t h o0 o1 o2 o3 = absurd (o2 a b v refl)
+took_other s at (String a b text n) t h o0 o1 o2 o3 = absurd (o3 a b text n refl)
 
 module _ (text t : List ℕ) where
   module _ (a b : ℕ) where

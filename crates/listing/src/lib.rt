@@ -1,5 +1,7 @@
 // List and Flat: one pass over the fields of a chain, with a table of the capabilities that were met, writes what belongs to the winning
 // ones. A store past a buffer's end is no store, so the pass measures in a buffer of one byte.
+#![tactic(auto)]
+
 ghost use Rattle.std.specs.Prelude.{◌≡◌, ◌+◌, ◌≤◌, ◌<◌, leb, length};
 ghost use Rattle.std.proofs.lemmas.List.Edits.{sets};
 ghost use Rattle.spec.specs.Lines.{line_at};
@@ -33,21 +35,21 @@ const MOST_RECORD_BYTES: usize = 65520;
 const MOST_FLAT_BYTES: usize = 16385;
 
 // What is written for a winning field: its record, or its text and a colon.
-#[derive(Drop)]
+#[derive(Clone, Copy)]
 pub enum Form {
     Records,
     Texts,
 }
 
 // Where a field comes from: the place of its description in the chain, and the number of its file, both from 0.
-#[derive(Drop)]
+#[derive(Clone, Copy)]
 pub struct Origin {
     pub place: u8,
     pub file: u8,
 }
 
 // Whether a field wins; if so, its name, the number of its kind, and its value.
-#[derive(Drop)]
+#[derive(Clone, Copy)]
 pub enum Won {
     No,
     Yes(u8, u8, u8, u64),

@@ -5,8 +5,6 @@ use mathlib.Core.Path.{◌≡◌, refl, ◌∙◌}
 use mathlib.Core.Bool.{Bool, true, false}
 use mathlib.Core.List.{List, [], ◌∷◌}
 use borrow.Author.Tests.{eq-eqb, ne_eqb}
-use denote.Enum.Declared.{tag_of}
-use types.Run.{OneOf, miss}
 use lib.Dec.{eqb}
 use lib.ListN.{take}
 use Rattle.spec.specs.Choice.{both}
@@ -18,7 +16,6 @@ use Rattle.laws.proofs.Readings.{reading-entered}
 use Rattle.fields.specs.Readings.{ReadAs}
 use Rattle.fields.specs.declared.FieldRead.{FieldRead}
 use Rattle.fields.specs.declared.FieldRead.TheVariants.{Malformed, Ignored, Link, Cancel, Flag, Number, String}
-use Rattle.fields.specs.contracts.FieldRead.{the_type}
 use Rattle.lookup.specs.Answers.{has_name, has_kind}
 
 -- ---- the name, byte by byte
@@ -74,11 +71,11 @@ module _ (id : List ℕ) (k : ℕ) (t : List ℕ) where
   named_matches s (String a b text n) h p = entry_matches a b _ p.1 ∙ rw h
 
 -- what is read as no capability is of no kind
-pub no_kind : (k : ℕ) (read : FieldRead) → OneOf (0 ∷ 1 ∷ 2 ∷ []) (tag_of the_type read) → has_kind k read ≡ false
-no_kind k Malformed t = refl
-no_kind k Ignored t = refl
-no_kind k (Link name) t = refl
-no_kind k (Cancel a b) t = absurd (miss (0 ∷ 1 ∷ 2 ∷ []) 3 tt t)
-no_kind k (Flag a b) t = absurd (miss (0 ∷ 1 ∷ 2 ∷ []) 4 tt t)
-no_kind k (Number a b v) t = absurd (miss (0 ∷ 1 ∷ 2 ∷ []) 5 tt t)
-no_kind k (String a b text n) t = absurd (miss (0 ∷ 1 ∷ 2 ∷ []) 6 tt t)
+pub no_kind : (k : ℕ) (read : FieldRead) → ((a b : ℕ) → read ≡ Cancel a b → ⊥) → ((a b : ℕ) → read ≡ Flag a b → ⊥) → ((a b v : ℕ) → read ≡ Number a b v → ⊥) → ((a b text n : ℕ) → read ≡ String a b text n → ⊥) → has_kind k read ≡ false
+no_kind k Malformed t0 t1 t2 t3 = refl
+no_kind k Ignored t0 t1 t2 t3 = refl
+no_kind k (Link name) t0 t1 t2 t3 = refl
+no_kind k (Cancel a b) t0 t1 t2 t3 = absurd (t0 a b refl)
+no_kind k (Flag a b) t0 t1 t2 t3 = absurd (t1 a b refl)
+no_kind k (Number a b v) t0 t1 t2 t3 = absurd (t2 a b v refl)
+no_kind k (String a b text n) t0 t1 t2 t3 = absurd (t3 a b text n refl)

@@ -1,4 +1,6 @@
 // The lookup: which field of a chain answers for an id and a kind.
+#![tactic(auto)]
+
 ghost use Rattle.std.specs.Prelude.{◌≡◌, [], ◌∷◌, eqb};
 ghost use Rattle.spec.specs.Lines.{line_at};
 ghost use Rattle.spec.specs.Files.{files, contents};
@@ -16,7 +18,7 @@ use lines::Step;
 use spec::{Kind, Location};
 
 // What a field with the asked name is to a question: it is passed over, it is a cancel, or it answers.
-#[derive(Drop)]
+#[derive(Clone, Copy)]
 enum Match {
     Passes,
     Cancels,
@@ -24,7 +26,7 @@ enum Match {
 }
 
 // What the fields of one line say: the lookup goes on, a cancel ends it, or a field answers, and is read so.
-#[derive(Drop)]
+#[derive(Clone, Copy)]
 enum LineHit {
     Open,
     Cancelled,
@@ -33,7 +35,7 @@ enum LineHit {
 
 // What a lookup finds in a chain: nothing; or the place of a file where the fields of a line start, and what the field that answers is read
 // as in the part of the file from there on.
-#[derive(Drop)]
+#[derive(Clone, Copy)]
 pub enum ChainHit {
     Nothing,
     Field(Location, FieldRead),

@@ -1,5 +1,7 @@
 // The search that counts: whether a name is found, and how many names had bytes compared, those of the asked length up to the first equal
 // one. It looks at name after name, and compares none that has another length.
+#![tactic(auto)]
+
 ghost use Rattle.std.specs.Prelude.{◌≡◌, [], ◌∷◌, ◌≤◌, length};
 ghost use Rattle.spec.specs.Answers.{searched_report};
 ghost use Rattle.spec.specs.Lines.{text_at, line_text, first_name};
@@ -13,7 +15,7 @@ use lines::{Next, has_length, is_equal, is_ignored, next_line, next_name};
 use spec::{MOST_BYTES, Refusal, Searched};
 
 // Whether the name was among some names, and how many were compared, with those before them.
-#[derive(Drop)]
+#[derive(Clone, Copy)]
 struct Tally {
     found: bool,
     compared: usize,

@@ -1,5 +1,7 @@
 // Places behind which an asked name may stand, sixteen at a time: a name is measured first, and bytes are compared only of one that has
 // the asked length.
+#![tactic(auto)]
+
 ghost use Rattle.std.specs.Prelude.{◌+◌, ◌≤◌, ◌<◌, true, false, ◌≡◌, ◌⊎◌, length};
 ghost use Rattle.name_places.specs.Marks.{Separator, Alone, Ending, Stop, Stops, Spelled, Whole, Settled, AllSettled, Passed};
 ghost use Rattle.name_places.specs.Marks.{mark_of, Marked, Measured, pick_of};
@@ -77,7 +79,7 @@ fn mark_of(cut: bool, fits: bool, number: u8) -> u8
 }
 
 // The last and the first of 16 places where a name may have the asked length, as the highest of their marks.
-#[derive(Drop)]
+#[derive(Clone, Copy)]
 struct PlaceMarks {
     high: u8,
     low: u8,

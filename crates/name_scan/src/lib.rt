@@ -9,6 +9,8 @@
 //
 // For a name that is not plain, pass 1 lists all blocks. Without lists, and near the end of the database, `hit_by_parts` takes all parts
 // through the passes 3 and 4.
+#![tactic(auto)]
+
 ghost use Rattle.std.specs.Prelude.{◌≡◌, ℕ, ◌+◌, ◌*◌, ◌<◌, ◌≤◌, true, false, length, slice_set};
 ghost use Rattle.name_places.specs.Marks.{AllSettled, Passed};
 ghost use Rattle.name_scan.specs.Blocks.{Start, Startless, Plain, Listed, counted, StartsListed, BlocksListed};

@@ -1,5 +1,7 @@
 // Finds the line of a terminal in a termcap database: from candidate to candidate, lines that may have the name. Only where the asked
 // name is spelled, or may be cut by a backslash and a newline, is a line looked at by itself.
+#![tactic(auto)]
+
 ghost use Rattle.std.specs.Prelude.{◌≤◌, ◌<◌, ◌≡◌, length};
 ghost use Rattle.spec.specs.Lines.{find_line};
 ghost use Rattle.name_search.specs.Candidates.{Closes, LineOf, NextCandidate};

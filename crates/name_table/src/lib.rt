@@ -1,6 +1,8 @@
 // A table of names, for a search by halving: the name j has the `lens[j]` bytes from 64 j on, and `order` lists the names. The contracts
 // do not ask that the list be sorted, or that it have every name: a text is found, or not, by its bytes alone, and what is found is the
 // text. How many steps that takes is the list's affair.
+#![tactic(auto)]
+
 ghost use Rattle.std.specs.Prelude.{◌+◌, ◌*◌, ◌-◌, ◌≤◌, ◌<◌, ◌≡◌, length};
 ghost use Rattle.name_table.specs.Table.{Table, AtMost, text_of, before, place_in, slot_of, inserted, listed, listing, Lists};
 

@@ -2,10 +2,8 @@
 -- Assumes nothing.
 use Prim.Native.Nat.{ℕ, ◌≤◌}
 use mathlib.Core.Path.{◌≡◌, refl}
-use mathlib.Core.List.{List, [], ◌∷◌}
+use mathlib.Core.List.{List, []}
 use native.Mathlib.Omega.{arith}
-use denote.Enum.Declared.{tag_of}
-use types.Run.{OneOf, miss}
 use lib.ListN.{length, drop, length-drop}
 use Rattle.spec.specs.Files.{Files, contents, file_at}
 use Rattle.spec.specs.Fields.{Reading}
@@ -16,7 +14,6 @@ use Rattle.field_bounds.proofs.LineBounds.{text_bound}
 use Rattle.fields.specs.Readings.{ReadAs}
 use Rattle.fields.specs.declared.FieldRead.{FieldRead}
 use Rattle.fields.specs.declared.FieldRead.TheVariants.{Malformed, Ignored, Link, Cancel, Flag, Number, String}
-use Rattle.fields.specs.contracts.FieldRead.{the_type}
 use Rattle.questions.specs.Answers.{text_length, read_value}
 
 module _ (s : List ℕ) (r : Reading) where
@@ -40,7 +37,7 @@ module _ (s : List ℕ) (r : Reading) where
   read_length (String a b text n) p = omega (arith, text_bound s text p.0 p.2, p.3)
 
   -- all but a string
-  pub read_nothing : (read : FieldRead) → ReadAs s r read → OneOf (0 ∷ 1 ∷ 2 ∷ 3 ∷ 4 ∷ 5 ∷ []) (tag_of the_type read) → bytes_of r ≡ []
+  pub read_nothing : (read : FieldRead) → ReadAs s r read → ((a b text n : ℕ) → read ≡ String a b text n → ⊥) → bytes_of r ≡ []
   unfolding bytes_of
   read_nothing Malformed p t = rw p
   read_nothing Ignored p t = rw p
@@ -48,17 +45,17 @@ module _ (s : List ℕ) (r : Reading) where
   read_nothing (Cancel a b) p t = rw p
   read_nothing (Flag a b) p t = rw p
   read_nothing (Number a b v) p t = rw p
-  read_nothing (String a b text n) p t = absurd (miss (0 ∷ 1 ∷ 2 ∷ 3 ∷ 4 ∷ 5 ∷ []) 6 tt t)
+  read_nothing (String a b text n) p t = absurd (t a b text n refl)
 
 -- all but a flag, a number and a string
-pub no_value : (read : FieldRead) → OneOf (0 ∷ 1 ∷ 2 ∷ 3 ∷ []) (tag_of the_type read) → read_value read ≡ 0
-no_value Malformed t = refl
-no_value Ignored t = refl
-no_value (Link name) t = refl
-no_value (Cancel a b) t = refl
-no_value (Flag a b) t = absurd (miss (0 ∷ 1 ∷ 2 ∷ 3 ∷ []) 4 tt t)
-no_value (Number a b v) t = absurd (miss (0 ∷ 1 ∷ 2 ∷ 3 ∷ []) 5 tt t)
-no_value (String a b text n) t = absurd (miss (0 ∷ 1 ∷ 2 ∷ 3 ∷ []) 6 tt t)
+pub no_value : (read : FieldRead) → ((a b : ℕ) → read ≡ Flag a b → ⊥) → ((a b v : ℕ) → read ≡ Number a b v → ⊥) → ((a b text n : ℕ) → read ≡ String a b text n → ⊥) → read_value read ≡ 0
+no_value Malformed t0 t1 t2 = refl
+no_value Ignored t0 t1 t2 = refl
+no_value (Link name) t0 t1 t2 = refl
+no_value (Cancel a b) t0 t1 t2 = refl
+no_value (Flag a b) t0 t1 t2 = absurd (t0 a b refl)
+no_value (Number a b v) t0 t1 t2 = absurd (t1 a b v refl)
+no_value (String a b text n) t0 t1 t2 = absurd (t2 a b text n refl)
 
 pub read_small : (db : Files) (l : Location) (r : Reading) (read : FieldRead) → ReadAs (drop l.at (file_at (contents db) l.file)) r read
     → text_length read ≤ length db.bytes

@@ -1,4 +1,6 @@
 // Flag, Number and String.
+#![tactic(auto)]
+
 ghost use Rattle.std.specs.Prelude.{◌≡◌, ◌≤◌, length, drop};
 ghost use Rattle.spec.specs.Files.{files, contents, file_at};
 ghost use Rattle.spec.specs.Answers.{answer_report};
@@ -16,7 +18,7 @@ use terminal::resolve;
 
 // What a question comes to: the field that answers is absent; or the place of a file where the fields of its line start, and what it is read
 // as in the part of the file from there on.
-#[derive(Drop)]
+#[derive(Clone, Copy)]
 enum Asked {
     Present(Location, FieldRead),
     Absent,

@@ -1,22 +1,24 @@
 // "An opened reader keeps the database it was opened on and serves Show, Flag and Number from it with equal answers and refusals; opening
 // itself refuses nothing." It keeps the files' ends, too; bad ones are refused with each question. Show, Flag and Number are each one call of
 // `show` or `questions`.
-ghost use Rattle.std.specs.Prelude.{◌≡◌, length};
+#![tactic(auto)]
+
+ghost use Rattle.std.specs.Prelude.{◌≡◌};
 ghost use Rattle.spec.specs.Files.{files};
 ghost use Rattle.spec.specs.Answers.{answer_report};
 ghost use Rattle.spec.specs.Questions.{show_answer, show_report, OwnPart, flag_answer, flag_report, number_answer, number_report};
 
 use spec::Answer;
 
-#[derive(Drop)]
+#[derive(Clone, Copy)]
 pub struct Reader<'a, 'e> {
     pub db: &'a [u8],
     pub ends: &'e [usize],
 }
 
-// What a reader keeps of a database: all of it, by place and length. A function of its own, so that wrong ones can be tried (decision 45).
+// What a reader keeps of a database: all of it, where it stands. A function of its own, so that wrong ones can be tried (decision 45).
 fn kept<'a>(db: &'a [u8]) -> &'a [u8]
-    ensures { (result.ref_ptr ≡ db.entry.ref_ptr) × (length result.now ≡ length db.now) }
+    ensures { result ≡ db.entry }
 {
     &db[0..]
 }

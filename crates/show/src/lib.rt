@@ -1,4 +1,6 @@
 // Show: refusals 16, 1 and 3, then the search for the name (4).
+#![tactic(auto)]
+
 ghost use Rattle.std.specs.Prelude.{◌≡◌, ◌+◌, ◌≤◌, length};
 ghost use Rattle.spec.specs.Lines.{extent};
 ghost use Rattle.spec.specs.Files.{files, contents, file_start, file_at};

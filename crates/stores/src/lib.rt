@@ -1,4 +1,6 @@
 // Stores into a lent buffer. A store past the buffer's end is no store, so that one function measures, with an empty part, and writes.
+#![tactic(auto)]
+
 ghost use Rattle.std.specs.Prelude.{◌≡◌, ◌+◌, set};
 ghost use Rattle.std.proofs.lemmas.List.Edits.{sets};
 

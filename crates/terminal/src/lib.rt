@@ -1,4 +1,6 @@
 // The terminal of a name: refusals 16, 1 and 3, then the walk.
+#![tactic(auto)]
+
 ghost use Rattle.spec.specs.Files.{files};
 ghost use Rattle.terminal.specs.Answers.{Resolved};
 

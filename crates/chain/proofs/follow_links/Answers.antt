@@ -1,0 +1,121 @@
+-- `chain::follow_links` meets its contract: the walk is what is still to be followed from the lines passed, with the size that is left.
+use mathlib.Core.Path.{refl, ◌∙◌, ap, sym}
+use native.Mathlib.Omega.{arith}
+use lib.ListN.{length-set}
+use Rattle.spec.specs.Fields.{line_size, verdict}
+use Rattle.laws.proofs.WalkSteps
+use Rattle.laws.proofs.FileLines.{line_of_part}
+use Rattle.laws.proofs.Judging.{verdict-good, good-name-short}
+use Rattle.chain.proofs.WalkPlaces
+use Rattle.chain.proofs.follow_links.Goals as goal
+
+pub loop-found-init : goal.loop-found-init
+loop-found-init c =
+    (omega arith, record { count = omega arith; size = omega arith; array = refl; walked = rw c.find_from-found.ensures (WalkSteps.walk_first _ _) })
+
+pub returns-in_default : goal.returns-in_default
+returns-in_default c =
+    let w = rw c.in_default.is at
+    c.loop-found.invariant.1.walked in
+    rw c.no_chain.ensures
+    (w ∙ WalkSteps.follow-none _ _ _ _ _, refl)
+
+pub returns-then-is_visited : goal.returns-then-is_visited
+returns-then-is_visited c =
+    let v = sym c.is_visited.ensures ∙ c.if-is_visited.true in
+    let w = rw c.in-At.is at
+    c.loop-found.invariant.1.walked in
+    rw c.no_chain-then-is_visited.ensures
+    (w ∙ WalkSteps.follow-back _ _ _ _ _ _ v, refl)
+
+pub returns-then-c-ge-MOST_DESCRIPTIONS : goal.returns-then-c-ge-MOST_DESCRIPTIONS
+returns-then-c-ge-MOST_DESCRIPTIONS c =
+    let v = sym c.is_visited.ensures ∙ c.if-is_visited.false in
+    let w = rw c.in-At.is at
+    c.loop-found.invariant.1.walked in
+    rw c.no_chain-then-c-ge-MOST_DESCRIPTIONS.ensures
+    (w ∙ WalkSteps.follow_full _ _ _ _ _ _ (omega arith) v, refl)
+
+pub returns-in-Malformed : goal.returns-in-Malformed
+returns-in-Malformed c =
+    let v = sym c.is_visited.ensures ∙
+    c.if-is_visited.false in
+    let q = c.in-Malformed.ensures in
+    let l = line_of_part _ c.in-At.p _
+    c.file-part.ensures in
+    let w = rw c.in-At.is at
+    c.loop-found.invariant.1.walked in
+    rw c.no_chain-in-Malformed.ensures
+    (w ∙ WalkPlaces.turn_spoilt _ _ _ _ _ _ (omega arith) (omega arith) (omega arith) v (ap verdict l ∙ q), refl)
+
+pub returns-then-size-left : goal.returns-then-size-left
+returns-then-size-left c =
+    let v = sym c.is_visited.ensures ∙
+    c.if-is_visited.false in
+    let q = c.in-Ends.ensures in
+    let l = line_of_part _ c.in-At.p _
+    c.file-part.ensures in
+    let w = rw c.in-At.is at
+    c.loop-found.invariant.1.walked in
+    rw c.no_chain-then-size-left.ensures (
+      w ∙ WalkPlaces.turn_big _ _ _ _ _ _ (omega arith) (omega arith) (omega arith) v _ (WalkPlaces.last_not _ (ap verdict l ∙ q.0)) (ap line_size l ∙ q.1)
+          (omega arith),
+      refl,
+    )
+
+pub returns-in-Ends : goal.returns-in-Ends
+returns-in-Ends c =
+    let v = sym c.is_visited.ensures ∙
+    c.if-is_visited.false in
+    let q = c.in-Ends.ensures in
+    let l = line_of_part _ c.in-At.p _
+    c.file-part.ensures in
+    let p = c.with_line.ensures in
+    let w = rw c.in-At.is at
+    c.loop-found.invariant.1.walked in (
+      rw (p.0, p.1) (w ∙ WalkPlaces.turn_last _ _ _ _ _ _ (omega arith) (omega arith) (omega arith) v _ (ap verdict l ∙ q.0) (ap line_size l ∙ q.1)
+          (omega arith)),
+      omega arith,
+      omega arith,
+    )
+
+pub returns-then-size-left-2 : goal.returns-then-size-left-2
+returns-then-size-left-2 c =
+    let v = sym c.is_visited.ensures ∙
+    c.if-is_visited.false in
+    let q = c.in-Links.ensures in
+    let l = line_of_part _ c.in-At.p _
+    c.file-part.ensures in
+    let w = rw c.in-At.is at
+    c.loop-found.invariant.1.walked in
+    rw c.no_chain-then-size-left-2.ensures (
+      w ∙ WalkPlaces.turn_big _ _ _ _ _ _ (omega arith) (omega arith) (omega arith) v _ (WalkPlaces.next_not _ _ (ap verdict l ∙ q.0)) (ap line_size l ∙ q.1)
+          (omega arith),
+      refl,
+    )
+
+pub find_linked-found-requires : goal.find_linked-found-requires
+find_linked-found-requires c =
+    let q = c.in-Links.ensures in
+    (omega arith, good-name-short _ (verdict-good _ _ q.0))
+
+pub loop-found-preserved : goal.loop-found-preserved
+loop-found-preserved c =
+    let v = sym c.is_visited.ensures ∙
+    c.if-is_visited.false in
+    let q = c.in-Links.ensures in
+    let l = line_of_part _ c.in-At.p _
+    c.file-part.ensures in
+    let p = c.with_line-c.ensures in
+    let inv = c.loop-found.invariant.1 in
+    let w = rw c.in-At.is
+    at inv.walked in (
+      omega arith,
+      record {
+        count = omega arith;
+        size = omega arith;
+        array = rw p.0 (simp length-set inv.array);
+        walked = rw (p.0, p.1, c.find_linked-found.ensures)
+            (w ∙ WalkPlaces.turn-next _ _ _ _ _ _ (omega arith) (omega arith) (omega arith) v _ _ (ap verdict l ∙ q.0) (ap line_size l ∙ q.1) (omega arith));
+      },
+    )

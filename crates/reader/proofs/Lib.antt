@@ -1,3 +1,0 @@
-pub mod AnswerFromReader
-pub mod Operands
-pub mod Passing
