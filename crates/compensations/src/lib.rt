@@ -1,5 +1,7 @@
 // A body filled in, and the compensations after it, into a lent buffer. With an empty part of the buffer they are only measured, against
 // a capacity that is given.
+#![tactic(auto)]
+
 ghost use Rattle.std.specs.Prelude.{◌≡◌, ◌+◌, ◌≤◌, ◌<◌, eqb};
 ghost use Rattle.spec.specs.Choice.{both};
 ghost use Rattle.spec.specs.Position.{plain_of, raising_for, compensation, repeated, compensations, compensated};
@@ -14,7 +16,7 @@ use spec::position::{Column, Raising, Row};
 use stores::put_bytes;
 
 // The place after bytes that were appended, or no room for them.
-#[derive(Drop)]
+#[derive(Clone, Copy)]
 enum Appended {
     Until(usize),
     NoRoom,
@@ -155,7 +157,7 @@ fn raising_for(back: &[u8], up: &[u8]) -> Raising
 }
 
 // A body filled in with its compensations: the place after them, no room for them, or the body's first fault.
-#[derive(Drop)]
+#[derive(Clone, Copy)]
 pub enum FilledIn {
     Until(usize),
     NoRoom,

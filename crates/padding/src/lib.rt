@@ -1,18 +1,20 @@
 // Padding: the prefix of a decoded command, and the count of pads for its delay.
+#![tactic(auto)]
+
 ghost use Rattle.std.specs.Prelude.{◌≡◌, ◌≤◌, length};
 ghost use Rattle.spec.specs.Digits.{is_digit};
 ghost use Rattle.spec.specs.Padding.{pad_count};
 ghost use Rattle.padding.specs.Reading.{DigitsRead, StarRead, PrefixRead};
 
 // A prefix that was read: its delay in tenths of a millisecond, not yet times lines; its star; and the place where the body starts.
-#[derive(Drop)]
+#[derive(Clone, Copy)]
 pub enum Prefix {
     Split(u32, bool, usize),
     BadPadding,
 }
 
 // Digits that were read, at most five: their value, and the place after them.
-#[derive(Drop)]
+#[derive(Clone, Copy)]
 struct DigitRun {
     value: u32,
     end: usize,

@@ -1,4 +1,6 @@
 // The two parameters on the way, in eight bytes, which pass in one register. What they stand for is `parameters_of` of specs/Places.
+#![tactic(auto)]
+
 ghost use Rattle.std.specs.Prelude.{◌≡◌};
 ghost use Rattle.spec.specs.Sequences.{take_next};
 ghost use Rattle.spec.specs.declared.position.Parameter.TheVariants.{Row as OfRow, Column as OfColumn};
@@ -11,7 +13,7 @@ use spec::position::{Column, Row};
 pub const ZERO: u16 = 32768;
 
 // Which parameters are unused, in their present order; once both are used, the order of their use.
-#[derive(Drop)]
+#[derive(Clone, Copy)]
 pub enum Turn {
     RowColumn,
     ColumnRow,
@@ -23,7 +25,7 @@ pub enum Turn {
 
 // The two parameters, each in a field of its own type, and how many compensations each owes: up strings for the row, back strings for the
 // column. An exchange changes only the turn.
-#[derive(Drop)]
+#[derive(Clone, Copy)]
 pub struct Places {
     pub row: Row,
     pub column: Column,
@@ -33,7 +35,7 @@ pub struct Places {
 }
 
 // The next parameter, by its axis.
-#[derive(Drop)]
+#[derive(Clone, Copy)]
 pub enum Next {
     Row(Row),
     Column(Column),

@@ -1,4 +1,6 @@
 // Filling in a position: a command's body for two parameters, into a lent buffer.
+#![tactic(auto)]
+
 ghost use Rattle.std.specs.Prelude.{◌≡◌, ◌+◌, ◌-◌, ◌*◌, ◌≤◌, ◌<◌, ◌^◌, length};
 ghost use Rattle.std.proofs.lemmas.List.Edits.{sets};
 ghost use Rattle.spec.specs.Digits.{spell, written, Fewest};
@@ -15,7 +17,7 @@ use spec::position::{Output, Raising};
 use stores::put_byte;
 
 // How many percent steps may be nested, each with the plain step before it, so that the stack does not grow with the command.
-const DEPTH: usize = 15;
+const DEPTH: usize = 12;
 
 // ---- writing: a store past the buffer's end is no store, so that with an empty part of the buffer the same code only measures
 
@@ -113,7 +115,7 @@ fn write_output(x: Output, out: &mut [u8], at: usize) -> usize
 // ---- "plain bytes and percent sequences alternate until the command is used up"
 
 // How far the steps came: to the end, at a place and with these parameters; to a fault; or to a pause, with so many bytes left.
-#[derive(Drop)]
+#[derive(Clone, Copy)]
 enum Step {
     Done(usize, Places),
     Fault(Refusal),
@@ -121,7 +123,7 @@ enum Step {
 }
 
 // A sequence that was done: the place after it in the command, the place after what it wrote, and the parameters; or its fault.
-#[derive(Drop)]
+#[derive(Clone, Copy)]
 enum Sequenced {
     Until(usize, usize, Places),
     Fault(Refusal),
@@ -215,7 +217,7 @@ fn percent(
 }
 
 // A body filled in: the place after its bytes, and the parameters as it leaves them; or its first fault.
-#[derive(Drop)]
+#[derive(Clone, Copy)]
 pub enum BodyEnd {
     At(usize, Places),
     Refused(Refusal),

@@ -1,5 +1,7 @@
 // Send, Send at and its two halves: a command's body with its padding, into a lent buffer. Nothing is written before it is known that all
 // fits.
+#![tactic(auto)]
+
 ghost use Rattle.std.specs.Prelude.{◌≡◌, ◌++◌, ◌≤◌, ◌<◌, length, drop, replicate};
 ghost use Rattle.std.proofs.lemmas.List.Edits.{sets};
 ghost use Rattle.spec.specs.Choice.{both};
@@ -202,7 +204,7 @@ pub fn pad(
 // ---- Send at
 
 // A command for a place, with its prefix split off: the delay, its star, and where the body starts.
-#[derive(Drop)]
+#[derive(Clone, Copy)]
 enum Judged {
     Body(u32, bool, usize),
     Refused(Refusal),

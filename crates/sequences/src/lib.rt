@@ -1,4 +1,6 @@
 // Percent sequences: each is read, and then done to the parameters.
+#![tactic(auto)]
+
 ghost use Rattle.std.specs.Prelude.{◌≡◌, ◌⊎◌, ◌+◌, ◌<◌, length, get_or};
 ghost use Rattle.spec.specs.Values.{raised, in_range, changed};
 ghost use Rattle.spec.specs.Sequences.{with_next, as_decimal, as_byte, change_next, change_every, exchange as exchanged, perform as doing};
@@ -107,7 +109,7 @@ fn change_value(c: Change, value: u16) -> Changed
 // ---- reading a sequence
 
 // A sequence that was read, from the byte after its sign on: whole, with the place after it; or there is none such.
-#[derive(Drop)]
+#[derive(Clone, Copy)]
 pub enum Reading {
     Whole(Sequence, usize),
     Unknown,
@@ -169,7 +171,7 @@ pub fn read_sequence(command: &[u8], from: usize) -> Reading
 // ---- what a sequence does to the parameters
 
 // What a sequence does: it writes, and leaves the parameters so; or it is refused.
-#[derive(Drop)]
+#[derive(Clone, Copy)]
 pub enum Performed {
     Gives(Output, Places),
     Refused(Refusal),

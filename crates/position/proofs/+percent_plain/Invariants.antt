@@ -1,0 +1,25 @@
+-- `position::plain` and `position::percent`: the measure of both is the length of the command that is left, as each call is on a part after
+-- at least one byte. A run of plain bytes is a loop, and so are sequences that follow each other.
+use Rattle.std.proofs.Common.{length, ◌-◌}
+use Rattle.places.specs.Places.{parameters_of}
+use Rattle.position.proofs.RunLaws.{Run}
+use Rattle.position.proofs.SequenceLaws.{Went}
+use Rattle.position.proofs.+percent_plain.Given as goal
+
+abbrev pub decreases-percent : goal.decreases-percent
+decreases-percent l = length l.command.now
+
+abbrev pub decreases-plain : goal.decreases-plain
+decreases-plain l = length l.command.now
+
+abbrev pub invariant-percent-loop-r : goal.invariant-percent-loop-r
+invariant-percent-loop-r l = Went l.command l.g (parameters_of l.fn.first) l.initial.out l.start l.out l.i l.at (parameters_of l.ps)
+
+abbrev pub decreases-percent-loop-r : goal.decreases-percent-loop-r
+decreases-percent-loop-r l = length l.command - l.i
+
+abbrev pub invariant-plain-loop-i : goal.invariant-plain-loop-i
+invariant-plain-loop-i l = Run l.command l.g (parameters_of l.ps) l.initial.out l.at l.out l.i
+
+abbrev pub decreases-plain-loop-i : goal.decreases-plain-loop-i
+decreases-plain-loop-i l = length l.command - l.i

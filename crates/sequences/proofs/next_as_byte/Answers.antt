@@ -1,0 +1,24 @@
+-- `sequences::next_as_byte` meets its contract, by the next parameter.
+use mathlib.Core.Path.{sym, ◌∙◌}
+use Rattle.places.specs.Places.{parameters_of}
+use Rattle.spec.specs.Sequences.{as_byte}
+use Rattle.sequences.proofs.NextParameter.{next_done}
+use Rattle.sequences.proofs.next_as_byte.Goals as goal
+
+pub returns-in-Row : goal.returns-in-Row
+returns-in-Row c =
+    let a = c.args in
+    rw (next_done (parameters_of a.ps) _ (sym c.in-Row.is ∙ c.next_parameter-next.ensures)
+    (as_byte a.g a.c (parameters_of a.ps))) c.row_as_byte.ensures
+
+pub returns-in-Column : goal.returns-in-Column
+returns-in-Column c =
+    let a = c.args in
+    rw (next_done (parameters_of a.ps) _ (sym c.in-Column.is ∙ c.next_parameter-next.ensures)
+    (as_byte a.g a.c (parameters_of a.ps))) c.column_as_byte.ensures
+
+pub returns-in-Nothing : goal.returns-in-Nothing
+returns-in-Nothing c =
+    let a = c.args in
+    rw (next_done (parameters_of a.ps) _ (sym c.in-Nothing.is ∙ c.next_parameter-next.ensures)
+    (as_byte a.g a.c (parameters_of a.ps)))
