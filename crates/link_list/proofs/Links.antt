@@ -5,8 +5,6 @@ use mathlib.Core.Path.{◌≡◌, refl, ◌∙◌, ap, sym}
 use mathlib.Core.Bool.{Bool, true, false, not}
 use mathlib.Core.List.{List, [], ◌∷◌}
 use native.Mathlib.Omega.{arith}
-use denote.Enum.Declared.{tag_of}
-use types.Run.{OneOf, miss}
 use borrow.Author.Tests.{eq-eqb, ne_eqb}
 use lib.Dec.{eqb}
 use lib.ListN.{length}
@@ -25,7 +23,6 @@ use Rattle.field_bounds.specs.Answers.{field_at, NamesPassed}
 use Rattle.field_bounds.specs.declared.AfterNames.TheVariants.{At as NamesTo}
 use Rattle.fields.specs.Readings.{Reads}
 use Rattle.fields.specs.declared.FieldRead.{FieldRead}
-use Rattle.fields.specs.contracts.FieldRead.{the_type}
 use Rattle.fields.specs.declared.FieldRead.TheVariants.{Malformed, Ignored, Link, Cancel, Flag, Number, String}
 use Rattle.link_targets.specs.Targets.{name_at}
 use Rattle.spec.specs.declared.Found.TheVariants.{At, Nothing}
@@ -60,12 +57,12 @@ link_named db at p e = e ∙ ap link (sym (name-cut db p ∙ good_no_bar (field_
 
 -- ---- any other answer is of a field that is no link
 
-pub not_link : (s : List ℕ) (at : ℕ) (r : FieldRead) → Reads s at r → OneOf (0 ∷ 1 ∷ 3 ∷ 4 ∷ 5 ∷ 6 ∷ []) (tag_of the_type r) → is_link (reading (field_at s at))
+pub not_link : (s : List ℕ) (at : ℕ) (r : FieldRead) → Reads s at r → ((name : ℕ) → r ≡ Link name → ⊥) → is_link (reading (field_at s at))
     ≡ false
 unfolding is_link
 not_link s at Malformed h t = rw h
 not_link s at Ignored h t = rw h
-not_link s at (Link name) h t = absurd (miss (0 ∷ 1 ∷ 3 ∷ 4 ∷ 5 ∷ 6 ∷ []) 2 tt t)
+not_link s at (Link name) h t = absurd (t name refl)
 not_link s at (Cancel a b) h t = rw h
 not_link s at (Flag a b) h t = rw h
 not_link s at (Number a b v) h t = rw h

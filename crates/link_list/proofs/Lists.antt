@@ -134,9 +134,9 @@ module _ (db ats₀ names₀ ats names : List ℕ) (l : Line) (ls : List Line) (
         record {
           small = omega (arith, q.small, p.2);
           few = h;
-          ats_room = ap length p.0 ∙ q.ats-room;
+          ats_room = ap length p.0 ∙ q.ats_room;
           names-room = ap length p.1 ∙ q.names-room;
-          ats_kept = rw (p.0, p.2) q.ats-kept;
+          ats_kept = rw (p.0, p.2) q.ats_kept;
           names-kept = rw (p.1, p.2) q.names-kept;
           counts = counted_on;
           starts = rw (p.0, p.2) (q.starts ∙ ap (λ (k : List ℕ). take n ats ++ k) start);
@@ -144,7 +144,7 @@ module _ (db ats₀ names₀ ats names : List ℕ) (l : Line) (ls : List Line) (
         }
     passed (At a) v p =
         let one : c ≡ 1 = e ∙ ap (λ (x : Bool). pick x 0 1) (linked-line l.text (name_at db a) v) in
-        let less : n < length ats = omega (arith, q.small, q.ats-room) in
+        let less : n < length ats = omega (arith, q.small, q.ats_room) in
         let less' : n < length names = omega (arith, q.small, q.names-room) in
         let more : take m ats' ≡ take n ats ++ l.start ∷ [] = rw (p.0, p.2) (take_more ats n l.start less) in
         let taken : take m names' ≡ take n names ++ a ∷ [] = rw (p.1, p.2) (take_more names n a less') in
@@ -155,9 +155,9 @@ module _ (db ats₀ names₀ ats names : List ℕ) (l : Line) (ls : List Line) (
         record {
           small = omega (arith, q.small, p.2);
           few = h;
-          ats_room = ap length p.0 ∙ length-set ats n l.start ∙ q.ats-room;
+          ats_room = ap length p.0 ∙ length-set ats n l.start ∙ q.ats_room;
           names-room = ap length p.1 ∙ length-set names n a ∙ q.names-room;
-          ats_kept = rw (p.0, p.2) (kept_more ats ats₀ n l.start q.ats-kept);
+          ats_kept = rw (p.0, p.2) (kept_more ats ats₀ n l.start q.ats_kept);
           names-kept = rw (p.1, p.2) (kept_more names names₀ n a q.names-kept);
           counts = counted_on;
           starts =
@@ -185,11 +185,11 @@ pub listing_done : (db ats₀ names₀ ats names : List ℕ) (ls : List Line) (l
     → Wanted db ats₀ names₀ ats names n
 listing_done db ats₀ names₀ ats names ls lines n q e =
     record {
-      fits = omega (arith, q.small, q.few, q.ats-room);
+      fits = omega (arith, q.small, q.few, q.ats_room);
       few = few_lines;
       starts = sym (q.starts ∙ ap (λ (l : List Line). take n ats ++ link_starts (left l)) e ∙ no_starts);
       texts = sym (q.texts ∙ ap (λ (l : List Line). names_at db (take n names) ++ link_names (left l)) e ∙ no_names);
-      ats_kept = q.ats-kept;
+      ats_kept = q.ats_kept;
       names-kept = q.names-kept;
     }
   where

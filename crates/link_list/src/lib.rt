@@ -1,5 +1,7 @@
 // The links that the first two passes of the repair leave in a database: where their lines start, where their names stand, and which of
 // them the third pass removes.
+#![tactic(auto)]
+
 ghost use Rattle.std.specs.Prelude.{◌≤◌, ◌≡◌, length, set};
 ghost use Rattle.spec.specs.Choice.{pick};
 ghost use Rattle.spec.specs.Lines.{text_at, line_text, line_at, is_ignored};
@@ -16,7 +18,7 @@ use link_targets::find_targets;
 use spec::{Found, MOST_LINES};
 
 // So many links; or the database has too many lines.
-#[derive(Drop)]
+#[derive(Clone, Copy)]
 pub enum Listed {
     Links(usize),
     TooMany,

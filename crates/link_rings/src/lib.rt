@@ -1,5 +1,7 @@
 // The third pass of the repair: which links are removed, and why. A link is a number: its line starts at `ats[k]`, and it leads to the
 // line that starts at `tos[k]`, or to NOWHERE.
+#![tactic(auto)]
+
 ghost use Rattle.std.specs.Prelude.{◌-◌, ◌<◌, ◌≡◌, length, drop, get_or};
 ghost use Rattle.spec.specs.Repair.{link_reason};
 ghost use Rattle.link_rings.specs.Rings.{found_of, links_of, reasons_of, Starts, index_of, Nexts, returns_to};

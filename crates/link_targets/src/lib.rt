@@ -1,5 +1,7 @@
 // Where the links of a database lead: each wanted name is settled at the first line that has it, in one pass over all names of the lines
 // that are left, for some hundred wanted names at a time.
+#![tactic(auto)]
+
 ghost use Rattle.std.specs.Prelude.{◌+◌, ◌≤◌, ◌<◌, ◌≡◌, eqb, length};
 ghost use Rattle.std.proofs.lemmas.List.Edits.{sets};
 ghost use Rattle.spec.specs.Lines.{line_at, find};

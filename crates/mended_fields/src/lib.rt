@@ -1,5 +1,7 @@
 // The fields of a line as Repair mends them: which are removed and why, their records, and the bytes of those that are kept. `s` is the
 // part of the database that starts after a line's names; a field is taken as it is written, with its colon if it has one.
+#![tactic(auto)]
+
 ghost use Rattle.std.specs.Prelude.{◌≤◌, ◌≡◌, false, length};
 ghost use Rattle.std.proofs.lemmas.List.Edits.{sets};
 ghost use Rattle.spec.specs.Lists.{holds};
@@ -25,7 +27,7 @@ pub const RECORD_SIZE: usize = 16;
 
 // The fields from a place on: none; or one with the reason for its removal, whether a link stands up to its end, its joined bytes with its
 // colon, and the place behind it.
-#[derive(Drop)]
+#[derive(Clone, Copy)]
 pub enum NextPart {
     Nothing,
     Part(u8, bool, usize, usize),

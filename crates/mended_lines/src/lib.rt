@@ -1,4 +1,6 @@
 // One line as Repair mends it (document 02, Ask 2): its bytes in the mended database, and its records.
+#![tactic(auto)]
+
 ghost use Rattle.std.specs.Prelude.{◌≤◌, ◌≡◌, length};
 ghost use Rattle.spec.specs.Lines.{line_at};
 ghost use Rattle.spec.specs.Repair.{own_bytes, mend_line};
@@ -16,7 +18,7 @@ use stores::{put_after, put_bytes};
 const NO_COLON: usize = 1;
 
 // What a line gives: so many bytes of the mended database, and so many records.
-#[derive(Drop)]
+#[derive(Clone, Copy)]
 pub struct Amounts {
     pub bytes: usize,
     pub records: usize,

@@ -16,7 +16,7 @@ use lib.Seq.{get_or-drop}
 use Rattle.spec.specs.Choice.{pick}
 use Rattle.spec.specs.Lines.{text_at, Line, line_text, later_lines, lines_from}
 use Rattle.spec.specs.Fields.{Verdict, malformed_line, no_link, link_to}
-use Rattle.spec.specs.Repair.{lines_of, is_dropped, left, line_link, Link, with_link, links_among, link_reason, Removed, removed_links, reason_at, link_removals}
+use Rattle.spec.specs.Repair.{lines_of, is_dropped, left, line_link, Link, with_link, links_among, link_reason, removed_links, reason_at, link_removals}
 use Rattle.laws.proofs.LinkRings.{Fresh}
 use Rattle.laws.proofs.RisingLines.{Rising, rising-from, rising-left, rising-after}
 use Rattle.link_list.specs.Listing.{start_of, link_starts, Reasons}

@@ -1,19 +1,17 @@
 -- The outcome by the tests that the code makes.
 -- Assumes nothing.
-use Prim.Native.Nat.{ℕ, ◌+◌, ◌*◌, ◌≤◌, ◌<◌}
-use mathlib.Core.Path.{◌≡◌, refl, ◌∙◌, ap, sym}
-use mathlib.Core.Bool.{Bool, true, false}
-use mathlib.Core.List.{List, [], ◌∷◌, ◌++◌}
+use Prim.Native.Nat.{ℕ, ◌*◌, ◌≤◌, ◌<◌}
+use mathlib.Core.Path.{◌≡◌, refl, ◌∙◌, sym}
+use mathlib.Core.Bool.{true, false}
+use mathlib.Core.List.{List}
 use native.Mathlib.Omega.{arith}
 use borrow.Author.Tests.{le-leb, lt-leb, lt-ltb, le-ltb}
-use lib.Dec.{leb, ltb}
-use lib.ListN.{length, take, drop}
-use lib.Seq.{sets, length-take-le}
-use Rattle.spec.specs.Choice.{pick, both}
+use lib.ListN.{length, take}
+use lib.Seq.{length-take-le}
 use Rattle.spec.specs.Refusals.{too_large}
 use Rattle.spec.specs.declared.Refusal.TheVariants.{DatabaseTooLarge, NoRoom, TooManyLines}
 use Rattle.spec.specs.declared.Repaired.TheVariants.{Counts, Refused}
-use Rattle.spec.specs.Repair.{Mended, mended, flattened, RepairOutcome, not_repaired, put_mended, too_many_lines, repair_outcome}
+use Rattle.spec.specs.Repair.{mended, flattened, not_repaired, put_mended, too_many_lines, repair_outcome}
 use Rattle.laws.proofs.Tests.{both_false}
 use Rattle.laws.proofs.Stores.{stored_front}
 use Rattle.laws.proofs.RecordRoom.{mended-sixteen}

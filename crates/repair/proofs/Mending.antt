@@ -2,12 +2,12 @@
 -- Assumes nothing.
 use Prim.Native.Nat.{ℕ, ◌+◌, ◌*◌, ◌≤◌, ◌<◌}
 use mathlib.Core.Path.{◌≡◌, refl, ◌∙◌, ap, sym}
-use mathlib.Core.List.{List, [], ◌∷◌, ◌++◌}
+use mathlib.Core.List.{List, [], ◌++◌}
 use native.Mathlib.Omega.{arith}
 use lib.ListN.{length, length-append}
 use lib.Seq.{sets, length-sets}
-use Rattle.spec.specs.Lines.{text_at, Line, line_text, later_lines, lines_from, line_at}
-use Rattle.spec.specs.Repair.{lines_of, Removed, reason_at, link_removals, Mended, mend_line, mend_lines, mended, flattened}
+use Rattle.spec.specs.Lines.{text_at, Line, later_lines, lines_from, line_at}
+use Rattle.spec.specs.Repair.{lines_of, reason_at, link_removals, Mended, mend_line, mend_lines, mended, flattened}
 use Rattle.laws.proofs.Stores.{stored-append}
 use Rattle.laws.proofs.NoLonger.{mended-short}
 use Rattle.laws.proofs.RecordRoom.{flat_append, sixteen-line, mended-few}

@@ -1,4 +1,6 @@
 // Repair (document 02, Ask 2): the mended database, and a record for each thing removed.
+#![tactic(auto)]
+
 ghost use Rattle.std.specs.Prelude.{◌+◌, ◌≤◌, ◌<◌, ◌≡◌, length};
 ghost use Rattle.spec.specs.Answers.{repaired_report};
 ghost use Rattle.spec.specs.Lines.{line_at};
@@ -14,7 +16,7 @@ use mended_lines::{Amounts, mend_line};
 use spec::{MOST_BYTES, MOST_LINES, Refusal, Repaired};
 
 // Why the link of a line is removed, 0 if it stays or there is none, and the number of the next link.
-#[derive(Drop)]
+#[derive(Clone, Copy)]
 pub struct LineReason {
     pub reason: u8,
     pub next: usize,
