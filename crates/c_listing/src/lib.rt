@@ -1,5 +1,7 @@
 // List, Flat and a batch of questions as C takes their results: over several files, and over a single one that fills the buffer. The C functions
 // of `termcap` call these, under the same promises word for word (decision 112).
+#![tactic(auto)]
+
 ghost use Rattle.std.specs.Prelude.{◌≡◌};
 ghost use Rattle.spec.specs.Files.{files, alone};
 ghost use Rattle.spec.specs.Listing.{list_outcome, list_report, flat_outcome, flat_report};

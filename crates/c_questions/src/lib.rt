@@ -1,5 +1,7 @@
 // Flag, Number and String as C takes their results: over several files, and over a single one that fills the buffer. The C functions of
 // `termcap` call these, under the same promises word for word (decision 112).
+#![tactic(auto)]
+
 ghost use Rattle.std.specs.Prelude.{◌≡◌};
 ghost use Rattle.spec.specs.Files.{files, alone};
 ghost use Rattle.spec.specs.Questions.{flag_report, number_report, string_outcome, string_report};

@@ -1,4 +1,6 @@
 // Repair as C takes its result. The C function of `termcap` calls it, under the same promise word for word (decision 112).
+#![tactic(auto)]
+
 ghost use Rattle.std.specs.Prelude.{◌≡◌};
 ghost use Rattle.spec.specs.Repair.{repair_outcome, repair_report};
 ghost use Rattle.c_results.specs.Results.{result_of, stored_value, stored_second};

@@ -1,6 +1,6 @@
 -- What a C function returns and stores for the report of an answer: 0, and the values are stored; 255 if there are no values (absent); for a
 -- refusal its number. Where there are no values, what was stored stays.
-use Rattle.std.specs.Prelude.{ℕ, ◌-◌, ◌≤◌, Bool, not, List, [], ◌∷◌, eqb}
+use Rattle.std.specs.Prelude.{ℕ, ◌-◌, ◌≤◌, ◌≡◌, Bool, not, List, [], ◌∷◌, eqb}
 use Rattle.spec.specs.Choice.{pick}
 use Rattle.spec.specs.Answers.{Report}
 use Rattle.spec.specs.declared.Shown.{Shown}
@@ -48,6 +48,10 @@ stored_second p old = second_or p.values old
 -- The count of the finished bytes, behind the delay and the star.
 unfoldable pub stored_third : Report → ℕ → ℕ
 stored_third p old = third_or p.values old
+
+-- What a function with one value gives: its result, and what is stored where another number was.
+abbrev pub Gives : Report → ℕ → ℕ → ℕ → Type 0
+Gives p r old new = (r ≡ result_of p) × (new ≡ stored_value p old)
 
 -- A star is stored as 1, and any number but 0 is taken for one.
 abbrev pub has_star : ℕ → Bool

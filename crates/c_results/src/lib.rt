@@ -1,4 +1,6 @@
 // What the C functions return and store for an answer: 0 and its values, 255 where it has none, or the number of its refusal.
+#![tactic(auto)]
+
 ghost use Rattle.std.specs.Prelude.{◌≡◌};
 ghost use Rattle.spec.specs.Choice.{pick};
 ghost use Rattle.spec.specs.Answers.{answer_report, written_report, shown_report, searched_report, repaired_report, filled_report};

@@ -1,5 +1,7 @@
 // Send, Send at and its two halves as C takes their results. The C functions of `termcap` call these, under the same promises word for word
 // (decision 112).
+#![tactic(auto)]
+
 ghost use Rattle.std.specs.Prelude.{◌≡◌};
 ghost use Rattle.spec.specs.Sending.{send_outcome, send_report, send_at_outcome, send_at_report, fill_outcome, fill_report, pad_outcome, pad_report};
 ghost use Rattle.c_results.specs.Results.{result_of, stored_value, stored_second, stored_third, has_star};

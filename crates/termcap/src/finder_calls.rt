@@ -36,11 +36,10 @@ fn give_line(f: Finder, text: &[u8], out: &mut [u8], count: &mut u64) -> u32
     give_count(finder::answer(f, text, out), count)
 }
 
-// ---- the C functions
+// ---- the functions for C
 
 // "A bad name is 1 at opening": the finder is stored all the same, and has ended.
-#[unsafe(no_mangle)]
-pub extern "C" fn termcap_finder_open(name: &[u8], finder: &mut Finder) -> u32
+pub fn termcap_finder_open(name: &[u8], finder: &mut Finder) -> u32
     ensures { (finder.new ≡ opened_finder name.now) × (result ≡ open_refusal name.now) }
 {
     let t = open_turn(name);
@@ -49,8 +48,7 @@ pub extern "C" fn termcap_finder_open(name: &[u8], finder: &mut Finder) -> u32
 }
 
 // "Keeps its place between calls and is changed where it stands."
-#[unsafe(no_mangle)]
-pub extern "C" fn termcap_finder_feed(finder: &mut Finder, block: &[u8], text: &mut [u8]) -> u32
+pub fn termcap_finder_feed(finder: &mut Finder, block: &[u8], text: &mut [u8]) -> u32
     ensures { turn result finder.new text.new ≡ feed_turn finder.old text.old block.now }
 {
     let q = *finder;
@@ -59,8 +57,7 @@ pub extern "C" fn termcap_finder_feed(finder: &mut Finder, block: &[u8], text: &
     t.refusal
 }
 
-#[unsafe(no_mangle)]
-pub extern "C" fn termcap_finder_end(finder: &mut Finder, text: &mut [u8]) -> u32
+pub fn termcap_finder_end(finder: &mut Finder, text: &mut [u8]) -> u32
     ensures { turn result finder.new text.new ≡ end_turn finder.old text.old }
 {
     let q = *finder;
@@ -69,13 +66,7 @@ pub extern "C" fn termcap_finder_end(finder: &mut Finder, text: &mut [u8]) -> u3
     t.refusal
 }
 
-#[unsafe(no_mangle)]
-pub extern "C" fn termcap_finder_answer(
-    finder: &Finder,
-    text: &[u8],
-    out: &mut [u8],
-    count: &mut u64,
-) -> u32
+pub fn termcap_finder_answer(finder: &Finder, text: &[u8], out: &mut [u8], count: &mut u64) -> u32
     ensures { (result ≡ result_of (finder_report finder.now text.now out.old))
         × (out.new ≡ (finder_outcome finder.now text.now out.old).buffer)
         × (count.new ≡ stored_value (finder_report finder.now text.now out.old) count.old) }

@@ -1,9 +1,12 @@
-// The library in one place: the operations of documents 01 and 02 with their answers, the opened reader, and the C functions, which give each
-// result as a number. A slice passes to C as a pointer and a length; the reader has no C functions. Each operation over several files comes
-// with the same for a single one that fills the buffer. Each C function but the finder's is one call of a function below, under the same promise
-// word for word: its wrong functions are tried there, where a crate is cheap to prove (decision 112).
+// The library in one place: the operations of documents 01 and 02 with their answers, the opened reader, and the functions for C, which give each
+// result as a number; `termcap_c` exports these under their own names. A slice passes to C as a pointer and a length; the reader has no C
+// functions. Each operation over several files comes with the same for a single one that fills the buffer. Each function for C but the finder's
+// is one call of a function below, under the same promise word for word; wrong functions are tried there, too, where a crate is cheap to prove
+// (decision 112).
 //
 // A must-fail edit of a finder's function leaves out all sections of this file, so that those are not proved again.
+#![tactic(auto)]
+
 mod finder_calls;
 
 ghost use Rattle.std.specs.Prelude.{◌≡◌};
@@ -40,8 +43,7 @@ pub use spec::{Answer, Fill, Finished, Kind, Refusal, Repaired, Searched, Shown,
 // ---- Show ----
 
 // "The part of the caller's database that holds the first description with that name": its place in the buffer.
-#[unsafe(no_mangle)]
-pub extern "C" fn termcap_show_files(
+pub fn termcap_show_files(
     db: &[u8],
     ends: &[usize],
     name: &[u8],
@@ -55,8 +57,7 @@ pub extern "C" fn termcap_show_files(
     c_search::show_files(db, ends, name, start, length)
 }
 
-#[unsafe(no_mangle)]
-pub extern "C" fn termcap_show(db: &[u8], name: &[u8], start: &mut u64, length: &mut u64) -> u32
+pub fn termcap_show(db: &[u8], name: &[u8], start: &mut u64, length: &mut u64) -> u32
     ensures { (result ≡ result_of (show_report (alone db.now) name.now))
         × (start.new ≡ stored_value (show_report (alone db.now) name.now) start.old)
         × (length.new ≡ stored_length (show_report (alone db.now) name.now) length.old) }
@@ -67,8 +68,7 @@ pub extern "C" fn termcap_show(db: &[u8], name: &[u8], start: &mut u64, length: 
 // ---- the search that counts ----
 
 // "Whether an asked name is found and how many names had bytes compared": a name that is not found is no refusal, and 0 is stored.
-#[unsafe(no_mangle)]
-pub extern "C" fn termcap_search_files(
+pub fn termcap_search_files(
     db: &[u8],
     ends: &[usize],
     name: &[u8],
@@ -82,8 +82,7 @@ pub extern "C" fn termcap_search_files(
     c_search::search_files(db, ends, name, found, compared)
 }
 
-#[unsafe(no_mangle)]
-pub extern "C" fn termcap_search(db: &[u8], name: &[u8], found: &mut u64, compared: &mut u64) -> u32
+pub fn termcap_search(db: &[u8], name: &[u8], found: &mut u64, compared: &mut u64) -> u32
     ensures { (result ≡ result_of (search_report (alone db.now) name.now))
         × (found.new ≡ stored_value (search_report (alone db.now) name.now) found.old)
         × (compared.new ≡ stored_second (search_report (alone db.now) name.now) compared.old) }
@@ -93,14 +92,7 @@ pub extern "C" fn termcap_search(db: &[u8], name: &[u8], found: &mut u64, compar
 
 // ---- Flag ----
 
-#[unsafe(no_mangle)]
-pub extern "C" fn termcap_flag_files(
-    db: &[u8],
-    ends: &[usize],
-    name: &[u8],
-    id: &[u8],
-    value: &mut u64,
-) -> u32
+pub fn termcap_flag_files(db: &[u8], ends: &[usize], name: &[u8], id: &[u8], value: &mut u64) -> u32
     ensures { (result ≡ result_of (flag_report (files db.now ends.now) name.now id.now))
         × (value.new
         ≡ stored_value (flag_report (files db.now ends.now) name.now id.now) value.old) }
@@ -108,8 +100,7 @@ pub extern "C" fn termcap_flag_files(
     c_questions::flag_files(db, ends, name, id, value)
 }
 
-#[unsafe(no_mangle)]
-pub extern "C" fn termcap_flag(db: &[u8], name: &[u8], id: &[u8], value: &mut u64) -> u32
+pub fn termcap_flag(db: &[u8], name: &[u8], id: &[u8], value: &mut u64) -> u32
     ensures { (result ≡ result_of (flag_report (alone db.now) name.now id.now))
         × (value.new ≡ stored_value (flag_report (alone db.now) name.now id.now) value.old) }
 {
@@ -118,8 +109,7 @@ pub extern "C" fn termcap_flag(db: &[u8], name: &[u8], id: &[u8], value: &mut u6
 
 // ---- Number ----
 
-#[unsafe(no_mangle)]
-pub extern "C" fn termcap_number_files(
+pub fn termcap_number_files(
     db: &[u8],
     ends: &[usize],
     name: &[u8],
@@ -133,8 +123,7 @@ pub extern "C" fn termcap_number_files(
     c_questions::number_files(db, ends, name, id, value)
 }
 
-#[unsafe(no_mangle)]
-pub extern "C" fn termcap_number(db: &[u8], name: &[u8], id: &[u8], value: &mut u64) -> u32
+pub fn termcap_number(db: &[u8], name: &[u8], id: &[u8], value: &mut u64) -> u32
     ensures { (result ≡ result_of (number_report (alone db.now) name.now id.now))
         × (value.new ≡ stored_value (number_report (alone db.now) name.now id.now) value.old) }
 {
@@ -143,8 +132,7 @@ pub extern "C" fn termcap_number(db: &[u8], name: &[u8], id: &[u8], value: &mut 
 
 // ---- String ----
 
-#[unsafe(no_mangle)]
-pub extern "C" fn termcap_string_files(
+pub fn termcap_string_files(
     db: &[u8],
     ends: &[usize],
     name: &[u8],
@@ -161,14 +149,7 @@ pub extern "C" fn termcap_string_files(
     c_questions::string_files(db, ends, name, id, out, count)
 }
 
-#[unsafe(no_mangle)]
-pub extern "C" fn termcap_string(
-    db: &[u8],
-    name: &[u8],
-    id: &[u8],
-    out: &mut [u8],
-    count: &mut u64,
-) -> u32
+pub fn termcap_string(db: &[u8], name: &[u8], id: &[u8], out: &mut [u8], count: &mut u64) -> u32
     ensures { (result ≡ result_of (string_report (alone db.now) name.now id.now out.old))
         × (out.new ≡ (string_outcome (alone db.now) name.now id.now out.old).buffer)
         × (count.new
@@ -179,8 +160,7 @@ pub extern "C" fn termcap_string(
 
 // ---- List ----
 
-#[unsafe(no_mangle)]
-pub extern "C" fn termcap_list_files(
+pub fn termcap_list_files(
     db: &[u8],
     ends: &[usize],
     name: &[u8],
@@ -195,8 +175,7 @@ pub extern "C" fn termcap_list_files(
     c_listing::list_files(db, ends, name, out, records)
 }
 
-#[unsafe(no_mangle)]
-pub extern "C" fn termcap_list(db: &[u8], name: &[u8], out: &mut [u8], records: &mut u64) -> u32
+pub fn termcap_list(db: &[u8], name: &[u8], out: &mut [u8], records: &mut u64) -> u32
     ensures { (result ≡ result_of (list_report (alone db.now) name.now out.old))
         × (out.new ≡ (list_outcome (alone db.now) name.now out.old).buffer)
         × (records.new ≡ stored_value (list_report (alone db.now) name.now out.old) records.old) }
@@ -206,8 +185,7 @@ pub extern "C" fn termcap_list(db: &[u8], name: &[u8], out: &mut [u8], records: 
 
 // ---- Flat ----
 
-#[unsafe(no_mangle)]
-pub extern "C" fn termcap_flat_files(
+pub fn termcap_flat_files(
     db: &[u8],
     ends: &[usize],
     name: &[u8],
@@ -222,8 +200,7 @@ pub extern "C" fn termcap_flat_files(
     c_listing::flat_files(db, ends, name, out, count)
 }
 
-#[unsafe(no_mangle)]
-pub extern "C" fn termcap_flat(db: &[u8], name: &[u8], out: &mut [u8], count: &mut u64) -> u32
+pub fn termcap_flat(db: &[u8], name: &[u8], out: &mut [u8], count: &mut u64) -> u32
     ensures { (result ≡ result_of (flat_report (alone db.now) name.now out.old))
         × (out.new ≡ (flat_outcome (alone db.now) name.now out.old).buffer)
         × (count.new ≡ stored_value (flat_report (alone db.now) name.now out.old) count.old) }
@@ -234,8 +211,7 @@ pub extern "C" fn termcap_flat(db: &[u8], name: &[u8], out: &mut [u8], count: &m
 // ---- a batch ----
 
 // "A buffer of 4-byte questions": an answer of eight bytes for each, in `out`.
-#[unsafe(no_mangle)]
-pub extern "C" fn termcap_batch_files(
+pub fn termcap_batch_files(
     db: &[u8],
     ends: &[usize],
     name: &[u8],
@@ -252,8 +228,7 @@ pub extern "C" fn termcap_batch_files(
     c_listing::batch_files(db, ends, name, questions, out, answers)
 }
 
-#[unsafe(no_mangle)]
-pub extern "C" fn termcap_batch(
+pub fn termcap_batch(
     db: &[u8],
     name: &[u8],
     questions: &[u8],
@@ -271,8 +246,7 @@ pub extern "C" fn termcap_batch(
 // ---- Repair ----
 
 // "A mended database, and a 16-byte record for each thing removed": `out` gets the one, `records` the others.
-#[unsafe(no_mangle)]
-pub extern "C" fn termcap_repair(
+pub fn termcap_repair(
     db: &[u8],
     out: &mut [u8],
     records: &mut [u8],
@@ -290,8 +264,7 @@ pub extern "C" fn termcap_repair(
 
 // ---- Send ----
 
-#[unsafe(no_mangle)]
-pub extern "C" fn termcap_send(
+pub fn termcap_send(
     command: &[u8],
     lines: u64,
     speed: u64,
@@ -308,8 +281,7 @@ pub extern "C" fn termcap_send(
 
 // ---- Send at ----
 
-#[unsafe(no_mangle)]
-pub extern "C" fn termcap_send_at(
+pub fn termcap_send_at(
     command: &[u8],
     row: u64,
     column: u64,
@@ -335,8 +307,7 @@ pub extern "C" fn termcap_send_at(
 // ---- the first half of Send at ----
 
 // The first half of Send at: `out` gets the finished bytes, of which there are `count`; their delay is in tenths of a millisecond, before its star.
-#[unsafe(no_mangle)]
-pub extern "C" fn termcap_fill(
+pub fn termcap_fill(
     command: &[u8],
     row: u64,
     column: u64,
@@ -362,8 +333,7 @@ pub extern "C" fn termcap_fill(
 // ---- the second half of Send at ----
 
 // The second half of Send at; any star but 0 is one.
-#[unsafe(no_mangle)]
-pub extern "C" fn termcap_pad(
+pub fn termcap_pad(
     delay: u64,
     star: u64,
     bytes: &[u8],

@@ -1,0 +1,5 @@
+-- `c_questions::flag_files` meets its contract: the answer of `questions::flag` as a number.
+use Rattle.c_questions.proofs.flag_files.Goals as goal
+
+pub returns : goal.returns
+returns c = rw (← c.flag.ensures.0) c.give_answer.ensures

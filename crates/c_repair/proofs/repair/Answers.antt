@@ -1,0 +1,8 @@
+-- `c_repair::repair` meets its contract: the answer of `repair::repair` as numbers.
+use Rattle.c_repair.proofs.repair.Goals as goal
+
+pub returns : goal.returns
+returns c =
+    let s = c.repair.ensures in
+    let g = c.give_repaired.ensures in
+    (rw (← s.0) g.0, s.2, s.3, rw (← s.0) g.1, rw (← s.0) g.2)

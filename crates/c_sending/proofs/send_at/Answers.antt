@@ -1,0 +1,8 @@
+-- `c_sending::send_at` meets its contract: the answer of `sending::send_at` as a number.
+use Rattle.c_sending.proofs.send_at.Goals as goal
+
+pub returns : goal.returns
+returns c =
+    let s = c.send_at.ensures in
+    let g = c.give_count.ensures in
+    (rw (← s.0) g.0, s.1, rw (← s.0) g.1)
