@@ -1,9 +1,9 @@
 #!/bin/bash
-# Tries the program tclist (target/bin/tclist, which `rt check tclist` writes) on what a user can do wrong and on the edges of its
+# Tries the program tclist (crates/tclist/out/tclist, which `rt run` writes there) on what a user can do wrong and on the edges of its
 # input. What it must write is written here by hand. The first difference ends the run.
 set -Eeuo pipefail
 cd "$(dirname "$0")/.."
-tclist=$PWD/target/bin/tclist
+tclist=$PWD/crates/tclist/out/tclist
 folder=$(mktemp -d)
 trap 'rm -rf "$folder"' EXIT
 trap 'echo "tests/tclist.sh: line $LINENO: a command failed, or took too long" >&2' ERR
@@ -76,6 +76,7 @@ wrote 'a path of 5,000 bytes, reported by its first 4,096' '' "tclist: $(times 4
 
 asks 'a missing file' none.tc 'aaa\n' '' $'tclist: none.tc: No such file or directory\n'
 asks 'an empty path' '' 'aaa\n' '' $'tclist: : No such file or directory\n'
+asks 'a name that is not UTF-8' $'\xff.tc' 'aaa\n' '' $'tclist: \xff.tc: A name in UTF-8 is wanted\n'
 asks 'a directory' folder 'aaa\n' '' $'tclist: folder: Is a directory\n'
 asks 'an empty file' empty.tc 'aaa\n' $'4\n' ''
 asks '65,536 bytes' most.tc 'aaa-nam\n' "$whole" ''

@@ -1,9 +1,9 @@
 #!/bin/bash
-# Tries the program tcmend (target/bin/tcmend, which `rt check tcmend` writes) on a damaged database, on the edges of its input, and on
+# Tries the program tcmend (crates/tcmend/out/tcmend, which `rt run` writes there) on a damaged database, on the edges of its input, and on
 # each fault that can be made here. What it must write is written here by hand. The first difference ends the run.
 set -Eeuo pipefail
 cd "$(dirname "$0")/.."
-tcmend=$PWD/target/bin/tcmend
+tcmend=$PWD/crates/tcmend/out/tcmend
 damaged=$PWD/data/damaged.tc
 folder=$(mktemp -d)
 trap 'chmod -R u+w "$folder"; rm -rf "$folder"' EXIT
@@ -149,6 +149,7 @@ tried=$((tried + 2))
 printf '%s' "$old" > site.tc
 mends 'a missing file' '' $'tcmend: none.tc: No such file or directory\n' none.tc
 mends 'an empty path' '' $'tcmend: : No such file or directory\n' ''
+mends 'a name that is not UTF-8' '' $'tcmend: \xff.tc: A name in UTF-8 is wanted\n' $'\xff.tc'
 mkdir folder
 mends 'a directory' '' $'tcmend: folder: Is a directory\n' folder
 mends 'a directory as the new file' '' $'tcmend: folder: Is a directory\n' site.tc folder
@@ -156,6 +157,7 @@ mends 'a directory as the new file' '' $'tcmend: folder: Is a directory\n' site.
 mends 'a new file in no directory' '' $'tcmend: none/new.tc.tcmend: No such file or directory\n' site.tc none/new.tc
 mends 'an empty new path' '' $'tcmend: : No such file or directory\n' site.tc ''
 [ ! -e .tcmend ]
+mends 'a new name that is not UTF-8' '' $'tcmend: \xff.tc.tcmend: A name in UTF-8 is wanted\n' site.tc $'\xff.tc'
 echo taken > site.tc.tcmend
 mends 'a temporary name that is taken' '' $'tcmend: site.tc.tcmend: File exists\n' site.tc site.tc
 diff site.tc.tcmend <(echo taken)

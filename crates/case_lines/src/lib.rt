@@ -1,6 +1,8 @@
 // What the programs of cases share: they read their cases from lines of fields, and write the answers.
 //
 // A bar stands after each field of a line but the last. In a text a backslash and two hexadecimal digits stand for a byte.
+#![tactic(auto)]
+
 ghost use Rattle.std.specs.Prelude.{◌≡◌, ◌∷◌, ◌≤◌, ◌<◌, min, max, length, drop};
 ghost use Rattle.std.proofs.lemmas.List.Edits.{sets};
 ghost use Rattle.io.specs.Counts.{IsPrefixLen};
@@ -9,7 +11,7 @@ ghost use Rattle.case_lines.specs.Fields.{place_of, after, field_of, digit_of, n
 use spec::Written;
 
 // A byte of a text, and the place after what it is written as.
-#[derive(Drop)]
+#[derive(Clone, Copy)]
 struct Decoded {
     byte: u8,
     next: usize,

@@ -1,18 +1,17 @@
--- Digits as `io` writes them, and a line that was read. Assumes nothing.
+-- Digits as `io` writes them, and the place of a byte. Assumes nothing.
 use Prim.Native.Nat.{ℕ, zero, suc, ◌+◌, ◌*◌, ◌/◌, ◌%◌, ◌^◌, ◌≤◌, ◌<◌}
 use mathlib.Core.Path.{◌≡◌, refl, sym, ap, ap₂, ◌∙◌}
 use mathlib.Core.List.{List, [], ◌∷◌, ◌++◌}
 use native.Mathlib.Nat.{pow-suc, mod-lt}
+use native.Mathlib.Numerals.{add-one}
 use native.Mathlib.Omega.{arith}
-use borrow.Author.Tests.{lt-ltb}
-use lib.ListN.{length}
-use lib.Seq.{length-take-le}
-use Rattle.bytes.specs.Bytes.{index_of, slice}
+use borrow.Author.Tests.{lt-ltb, eq-eqb, ne_eqb}
+use lib.ListN.{length, drop, get_or, drop_of_length-le}
+use lib.Seq.{drop-cons}
 use Rattle.io.specs.Digits.{last_digits, IsDigitCount}
 use Rattle.spec.specs.Digits.{spell, written}
-use Rattle.laws.proofs.DigitLaws.{spell_last, spell-length, written_is, written-most}
-use Rattle.program_io.specs.Inputs.{LineRead}
-use Rattle.program_io.specs.declared.Input.TheVariants.{Bytes}
+use Rattle.spec.specs.Lists.{upto}
+use Rattle.laws.proofs.DigitLaws.{spell_last, spell-length, written_is}
 
 digits_spelled : (k n : ℕ) → n < 10 ^ k → last_digits 10 k n ≡ spell 10 k n
 unfolding spell
@@ -31,11 +30,22 @@ module _ (n k : ℕ) (f : IsDigitCount 10 1 n k) where
   pub written-length : length (written 10 1 n) ≡ k
   written-length = ap length (written_is 10 1 n (omega arith) k f) ∙ spell-length 10 k n
 
-pub number_short : (n : ℕ) → n < 2 ^ 64 → length (written 10 1 n) ≤ 20
-number_short n h = written-most 10 1 n (omega arith) 20 (omega arith) (omega arith)
+-- ---- the place of a byte
 
--- the bytes before the first newline of those that were read
-pub line_read : (buffer : List ℕ) (m n : ℕ) → m ≤ length buffer → n ≤ m → n ≡ 0 + index_of 10 (slice 0 m buffer) → LineRead (Bytes n) buffer
-line_read buffer m n h i e =
-    let inside : n ≤ length buffer = omega arith in
-    ((inside, sym (length-take-le n buffer inside)), (m, h, omega arith))
+-- a byte, and what stands after it
+next : (s : List ℕ) (i : ℕ) → i < length s → drop i s ≡ get_or s i 0 ∷ drop (i + 1) s
+next s i h = rw (add-one, drop-cons s i 0)
+
+module _ (s : List ℕ) (i b : ℕ) where
+  pub place_end : length s ≤ i → i + length (upto b (drop i s)) ≡ i
+  unfolding upto
+  place_end h = rw (drop_of_length-le s h) (omega arith)
+
+  module _ (h : i < length s) where
+    pub place_here : get_or s i 0 ≡ b → i + length (upto b (drop i s)) ≡ i
+    unfolding upto
+    place_here e = rw (next s i h, eq-eqb _ _ e) (omega arith)
+
+    pub place_on : (get_or s i 0 ≡ b → ⊥) → i + length (upto b (drop i s)) ≡ i + 1 + length (upto b (drop (i + 1) s))
+    unfolding upto
+    place_on n = rw (next s i h, ne_eqb _ _ n) (omega arith)

@@ -7,6 +7,8 @@
 // opened reader is asked Flag, Number and Show); `String`, a name, an id and a room; `List` or `Flat`, a name and a room; with a bar after
 // each but the last. In a name and an id a backslash and two hexadecimal digits stand for a byte. The buffer has as many bytes as the room
 // says, at most 64, holds 255 in each before the call, and is written in decimal after the answer. Any other line is a comment.
+#![tactic(auto)]
+
 ghost use Rattle.std.specs.Prelude.{◌≤◌, length};
 ghost use Rattle.io.specs.Counts.{IsPrefixLen};
 

@@ -6,8 +6,7 @@ use mathlib.Core.List.{List, [], ◌∷◌, ◌++◌}
 use native.Mathlib.Numerals.{add-one}
 use native.Mathlib.Omega.{arith}
 use borrow.Author.Tests.{lt-ltb, le-ltb}
-use lib.ListN.{length, set, length-append}
-use lib.Seq.{sets}
+use lib.ListN.{set, length-append}
 use Rattle.spec.specs.Choice.{between}
 use Rattle.spec.specs.Lines.{Text, end, byte}
 use Rattle.laws.proofs.Stores.{stored-append}

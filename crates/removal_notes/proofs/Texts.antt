@@ -1,15 +1,14 @@
 -- The laws of the text that a record names. Assumes nothing.
-use Prim.Native.Nat.{ℕ, zero, suc, ◌+◌, ◌-◌, ◌≤◌, ◌<◌}
-use mathlib.Core.Path.{◌≡◌, refl, sym, ap, ◌∙◌}
+use Prim.Native.Nat.{ℕ, zero, suc, ◌+◌, ◌-◌, ◌<◌}
+use mathlib.Core.Path.{◌≡◌, refl, sym, ◌∙◌}
 use mathlib.Core.Bool.{Bool, true, false}
-use mathlib.Core.List.{List, [], ◌∷◌, ◌++◌}
-use native.Mathlib.Nat.{zero_add, suc-add}
+use native.Mathlib.Nat.{zero-add, suc-add}
 use native.Mathlib.Omega.{arith}
 use borrow.Author.Tests.{eq-eqb, ne_eqb}
 use lib.Dec.{eqb}
 use Rattle.spec.specs.Choice.{pick}
 use Rattle.spec.specs.Lines.{Text, end, byte}
-use Rattle.removal_notes.specs.Notes.{text_from, place_of, shown_byte, shown_bytes}
+use Rattle.removal_notes.specs.Notes.{text_from}
 
 pub from_start : (t : Text) → text_from 0 0 t ≡ t
 unfolding text_from
@@ -52,7 +51,7 @@ chosen f false e g = g
 -- a place further in the line
 pub bytes_further : (line k j : ℕ) (t : Text) → text_from 0 j (text_from line k t) ≡ text_from line (k + j) t
 unfolding text_from
-bytes_further zero zero j t = rw (zero_add j) refl
+bytes_further zero zero j t = rw (zero-add j) refl
 bytes_further zero (suc k) j end = from_end 0 j ∙ sym (from_end 0 (suc k + j))
 bytes_further zero (suc k) j (byte b n t) = rw (suc-add k j) (go (eqb b 10) refl (bytes_further zero k j t))
   where
@@ -71,8 +70,8 @@ bytes_further (suc line) k j (byte b n t) = chosen (text_from 0 j) (eqb b 10) (b
 lines_further : (line m place k : ℕ) (t : Text) → text_from (suc m) place (text_from line k t) ≡ text_from (line + suc m) place t
 unfolding text_from
 lines_further line m place k end = rw (from_end line k) (sym (from_end (line + suc m) place))
-lines_further zero m place zero (byte b n t) = rw (zero_add (suc m)) refl
-lines_further zero m place (suc k) (byte b n t) = rw (zero_add (suc m)) (go (eqb b 10) refl (rw (zero_add (suc m)) at (lines_further zero m place k t)))
+lines_further zero m place zero (byte b n t) = rw (zero-add (suc m)) refl
+lines_further zero m place (suc k) (byte b n t) = rw (zero-add (suc m)) (go (eqb b 10) refl (rw (zero-add (suc m)) at (lines_further zero m place k t)))
   where
     go : (x : Bool) → eqb b 10 ≡ x → text_from (suc m) place (text_from 0 k t) ≡ text_from (suc m) place t
         → text_from (suc m) place (pick x (byte b n t) (text_from 0 k t)) ≡ pick x (text_from m place t) (text_from (suc m) place t)
@@ -89,4 +88,4 @@ lines_later from to place k t h =
     rw e (lines_further from (to - from - 1) place k t ∙ rw f)
 
 pub lines_and_bytes : (lines bytes : ℕ) (t : Text) → text_from 0 bytes (text_from lines 0 t) ≡ text_from lines bytes t
-lines_and_bytes lines bytes t = bytes_further lines 0 bytes t ∙ rw (zero_add bytes)
+lines_and_bytes lines bytes t = bytes_further lines 0 bytes t ∙ rw (zero-add bytes)

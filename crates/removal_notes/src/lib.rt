@@ -1,4 +1,6 @@
 // The notes of the program tcmend: where a removed thing stands in the file as an editor counts it, and what is shown of it.
+#![tactic(auto)]
+
 ghost use Rattle.std.specs.Prelude.{◌+◌, ◌*◌, ◌≤◌, ◌≡◌, length};
 ghost use Rattle.spec.specs.Choice.{between};
 ghost use Rattle.spec.specs.Lines.{text_at};
@@ -10,7 +12,7 @@ use program_io::put_decimal;
 use stores::{put_byte, put_bytes};
 
 // A line and a column of a file, from 1.
-#[derive(Drop)]
+#[derive(Clone, Copy)]
 pub struct Position {
     pub row: usize,
     pub column: usize,
@@ -18,7 +20,7 @@ pub struct Position {
 
 // What a record names: its logical line and its place in that line once joined, both from 0; a place of the database whose joined text
 // starts there, and the position of that place.
-#[derive(Drop)]
+#[derive(Clone, Copy)]
 pub struct Spot {
     pub line: usize,
     pub place: usize,

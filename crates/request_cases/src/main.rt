@@ -7,6 +7,8 @@
 // for the same without an end declared. Any other line is a comment. In a text
 // a backslash and two hexadecimal digits stand for a byte. A buffer has as many bytes as its room says, at most 64, and holds 255 in each
 // before the call.
+#![tactic(auto)]
+
 ghost use Rattle.std.specs.Prelude.{◌≤◌, max};
 ghost use Rattle.io.specs.Counts.{IsPrefixLen};
 

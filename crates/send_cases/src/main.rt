@@ -5,6 +5,8 @@
 // and room; `fill`, command, row, column, back string, up string and room; or `pad`, delay, star, bytes, lines, speed, pad byte and room;
 // with a bar after each but the last. Any other line is a comment. In a text a backslash and two hexadecimal digits stand for a byte. The
 // buffer has as many bytes as the room says, at most 64, and holds 255 in each before the call.
+#![tactic(auto)]
+
 use case_lines::{byte, find, number, room, show_bytes, show_refusal, show_written, text};
 use spec::{Fill, Written};
 

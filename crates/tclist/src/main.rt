@@ -1,5 +1,7 @@
 // Prints the listing of a terminal: `tclist FILE`, with the terminal's name on the first line of standard input. What goes wrong is
 // reported on standard error, and then nothing is printed. A program has no exit status to tell it by.
+#![tactic(auto)]
+
 ghost use Rattle.std.specs.Prelude.{◌+◌, ◌*◌, ◌≤◌, ◌≡◌, length};
 ghost use Rattle.std.proofs.lemmas.List.Edits.{sets};
 ghost use Rattle.io.specs.Counts.{IsPrefixLen};
@@ -10,10 +12,12 @@ ghost use Rattle.spec.specs.declared.Written.TheVariants.{Refused};
 ghost use Rattle.tclist.specs.Output.{separator_of, decimals, answer_text, PutText};
 
 use check::same;
-use libc::{STDERR_FILENO, STDIN_FILENO};
 use listing::list;
-use program_io::{Input, read_file, read_line};
+use program_io::{Input, argument, has_argument, read_line, read_path};
 use spec::{Refusal, Written};
+use std::env::Env;
+use std::io::{Error, Input as StandardInput};
+use std::rt::Files;
 use stores::put_byte;
 
 // The most bytes of a file that is searched, and room to see that a file has more.
@@ -100,58 +104,50 @@ fn put_listing(db: &[u8], name: &[u8], records: &mut [u8], out: &mut [u8]) -> us
 
 // ---- the program
 
-fn fail(what: &[u8]) {
-    program_io::fail(b"tclist", what);
+fn fail<E: Print>(err: &E, what: &[u8], reason: Error) {
+    program_io::fail(err, b"tclist", what, reason);
 }
 
-fn print(text: &[u8]) {
-    program_io::print(b"tclist", text);
+fn print<O: Print, E: Print>(out: &O, err: &E, text: &[u8]) {
+    program_io::print(out, err, b"tclist", text);
 }
 
-fn print_listing(db: &[u8], name: &[u8]) {
+fn print_listing<O: Print, E: Print>(out: &O, err: &E, db: &[u8], name: &[u8]) {
     let mut records = [0u8; RECORDS_ROOM];
     let mut text = [0u8; TEXT_ROOM];
     let n = put_listing(db, name, &mut records, &mut text);
-    print(&text[..n]);
+    print(out, err, &text[..n]);
 }
 
-fn list_asked(db: &[u8]) {
+fn list_asked<R: StandardInput + Print, E: Print>(rt: &R, err: &E, db: &[u8]) {
     let mut name = [0u8; NAME_ROOM];
-    match read_line(STDIN_FILENO, &mut name) {
-        Input::Bytes(n) => print_listing(db, &name[..n]),
-        Input::Failed => fail(b"standard input"),
+    let mut input = rt.reader();
+    match read_line(&mut input, &mut name) {
+        Input::Bytes(n) => print_listing(rt, err, db, &name[..n]),
+        Input::Failed(reason) => fail(err, b"standard input", reason),
     }
 }
 
-fn list_database(path: &[u8], db: &[u8]) {
+fn list_database<R: StandardInput + Print, E: Print>(rt: &R, err: &E, path: &[u8], db: &[u8]) {
     if db.len() > MOST_BYTES {
-        program_io::report(b"tclist", path, b": more than 65536 bytes\n");
+        program_io::report(err, b"tclist", path, b": more than 65536 bytes\n");
         return;
     }
-    list_asked(db);
+    list_asked(rt, err, db);
 }
 
-fn list_file(path: &[u8]) {
-    let file = os::open_read(path);
-    if file < 0 {
-        fail(path);
-        return;
-    }
+fn list_file<R: Files + StandardInput + Print, E: Print>(rt: &R, err: &E, path: &[u8]) {
     let mut db = [0u8; FILE_ROOM];
-    match read_file(file, &mut db) {
-        Input::Bytes(n) => {
-            libc::close(file);
-            list_database(path, &db[..n]);
-        }
-        Input::Failed => {
-            fail(path);
-            libc::close(file);
-        }
+    match read_path(rt, path, &mut db) {
+        Input::Bytes(n) => list_database(rt, err, path, &db[..n]),
+        Input::Failed(reason) => fail(err, path, reason),
     }
 }
 
-fn print_usage() {
+fn print_usage<O: Print, E: Print>(out: &O, err: &E) {
     print(
+        out,
+        err,
         b"usage: tclist FILE
 Prints the listing of the terminal that the first line of standard input names.
 FILE is a termcap database of at most 65536 bytes. Each record is printed on a
@@ -162,23 +158,28 @@ The exit status says nothing: it is 0 in every case.
     );
 }
 
-fn main() {
-    if os::arg_count() != 2 {
-        io::write_all(
-            STDERR_FILENO,
+fn run<R: Files + Env + StandardInput + Print, E: Print>(rt: &R, err: &E) {
+    if !has_argument(rt, 1) || has_argument(rt, 2) {
+        let _ = err.write_all(
             b"tclist: one argument is wanted, the file; tclist --help says more\n",
         );
         return;
     }
     let mut path = io::buffer();
-    let n = os::arg(1, &mut path);
-    if os::errno() != 0 {
-        fail(&path);
+    match argument(rt, 1, &mut path) {
+        Input::Bytes(n) => run_on(rt, err, &path[..n]),
+        Input::Failed(reason) => fail(err, &path, reason),
+    }
+}
+
+fn run_on<R: Files + StandardInput + Print, E: Print>(rt: &R, err: &E, path: &[u8]) {
+    if same(path, b"--help") {
+        print_usage(rt, err);
         return;
     }
-    if same(&path[..n], b"--help") {
-        print_usage();
-        return;
-    }
-    list_file(&path[..n]);
+    list_file(rt, err, path);
+}
+
+fn main(rt: HostRuntime) {
+    run(&rt, &rt.stderr());
 }

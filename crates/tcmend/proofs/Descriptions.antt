@@ -1,11 +1,11 @@
 -- The lines that are counted, one after the other. Assumes nothing.
 use Prim.Native.Nat.{ℕ, ◌+◌}
-use mathlib.Core.Path.{◌≡◌, refl, ◌∙◌}
+use mathlib.Core.Path.{◌≡◌, refl}
 use mathlib.Core.Bool.{Bool, true, false}
 use mathlib.Core.List.{List, []}
 use native.Mathlib.Omega.{arith}
 use Rattle.spec.specs.Choice.{pick}
-use Rattle.spec.specs.Lines.{Line, text_at, line_at, later_lines, lines_from, is_ignored}
+use Rattle.spec.specs.Lines.{text_at, line_at, later_lines, lines_from, is_ignored}
 use Rattle.spec.specs.Repair.{descriptions}
 
 none_left : descriptions [] ≡ 0

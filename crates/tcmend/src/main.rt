@@ -1,6 +1,8 @@
 // Mends a termcap database as sites have edited it: `tcmend FILE` writes the mended one to standard output and its notes to standard
 // error; `tcmend FILE NEW` writes it to the file NEW, which may be FILE, and its notes to standard output. NEW is written under a
 // temporary name and then renamed, so that a fault leaves the old file as it was.
+#![tactic(auto)]
+
 ghost use Rattle.std.specs.Prelude.{◌+◌, ◌*◌, ◌≤◌, ◌<◌, ◌≡◌, length};
 ghost use Rattle.spec.specs.Lines.{line_at, is_ignored};
 ghost use Rattle.spec.specs.Choice.{pick};
@@ -8,13 +10,17 @@ ghost use Rattle.spec.specs.Repair.{lines_of, descriptions};
 ghost use Rattle.removal_notes.specs.Notes.{Stands};
 
 use check::same;
-use libc::{STDERR_FILENO, STDOUT_FILENO};
 use lines::{Next, is_ignored, next_line};
 use mended_fields::RECORD_SIZE;
-use program_io::{Input, put_decimal, read_file};
+use program_io::{Input, argument, has_argument, name, put_decimal, read_path};
 use removal_notes::{Spot, find_spot, own_position, put_note};
 use repair::repair;
 use spec::{MOST_BYTES, Refusal, Repaired};
+use std::env::Env;
+use std::fs;
+use std::fs::{OpenFile, OpenOptions};
+use std::io::{Error, Result, Write};
+use std::rt::Files;
 use stores::put_bytes;
 
 // A note has a path of 4,096 bytes at most, two numbers, a reason and 60 bytes shown.
@@ -30,18 +36,18 @@ fn megabyte() -> [u8; 1048577]
     [0; 1048577]
 }
 
-fn fail(what: &[u8]) {
-    program_io::fail(b"tcmend", what);
+fn fail<E: Print>(err: &E, what: &[u8], reason: Error) {
+    program_io::fail(err, b"tcmend", what, reason);
 }
 
-fn report(path: &[u8], what: &[u8]) {
-    program_io::report(b"tcmend", path, what);
+fn report<E: Print>(err: &E, path: &[u8], what: &[u8]) {
+    program_io::report(err, b"tcmend", path, what);
 }
 
 // ---- the notes
 
 // A record of a removal: its logical line and its place there, the reason, and its joined bytes.
-#[derive(Drop)]
+#[derive(Clone, Copy)]
 struct Removal {
     line: usize,
     place: usize,
@@ -108,16 +114,16 @@ fn put_removal(path: &[u8], db: &[u8], s: Spot, r: Removal, out: &mut [u8]) -> u
     }
 }
 
-fn write_note(file: i32, path: &[u8], db: &[u8], s: Spot, r: Removal) -> bool
+fn write_note<P: Print>(to: &P, path: &[u8], db: &[u8], s: Spot, r: Removal) -> Result<()>
     requires { (length path.now ≤ 4096) × (length db.now ≤ 1048576) × Stands db.now s }
 {
     let mut out = [0u8; NOTE_ROOM];
     let n = put_removal(path, db, s, r, &mut out);
-    io::write_all(file, &out[..n])
+    to.write_all(&out[..n])
 }
 
 // What the notes told of: fields that were removed, descriptions that lost some, and lines that were dropped.
-#[derive(Drop)]
+#[derive(Clone, Copy)]
 struct Told {
     fields: usize,
     changed: usize,
@@ -157,7 +163,7 @@ impl Told {
 }
 
 // The notes of all records, and the summary.
-fn tell(file: i32, path: &[u8], db: &[u8], records: &[u8], left: usize) -> bool
+fn tell<P: Print>(to: &P, path: &[u8], db: &[u8], records: &[u8], left: usize) -> Result<()>
     requires { (length path.now ≤ 4096) × (length db.now ≤ 1048576) × (length records.now ≤ 1048577) }
 {
     let mut spot = Spot::first(db);
@@ -166,13 +172,11 @@ fn tell(file: i32, path: &[u8], db: &[u8], records: &[u8], left: usize) -> bool
     while at + RECORD_SIZE <= records.len() {
         let r = removal_at(records, at);
         spot = find_spot(db, spot, r.line, r.place);
-        if !write_note(file, path, db, spot, r) {
-            return false;
-        }
+        write_note(to, path, db, spot, r)?;
         told = told.with(r);
         at += RECORD_SIZE;
     }
-    write_summary(file, path, told, left)
+    write_summary(to, path, told, left)
 }
 
 // ---- the summary
@@ -228,12 +232,12 @@ fn put_summary(path: &[u8], told: Told, left: usize, out: &mut [u8]) -> usize
     )
 }
 
-fn write_summary(file: i32, path: &[u8], told: Told, left: usize) -> bool
+fn write_summary<P: Print>(to: &P, path: &[u8], told: Told, left: usize) -> Result<()>
     requires { length path.now ≤ 4096 }
 {
     let mut out = [0u8; NOTE_ROOM];
     let n = put_summary(path, told, left, &mut out);
-    io::write_all(file, &out[..n])
+    to.write_all(&out[..n])
 }
 
 // One for a line that isn't ignored.
@@ -263,102 +267,154 @@ fn count_descriptions(db: &[u8]) -> usize
 
 // ---- the new file
 
-// Writes and closes the file; whether all of it is on the disk.
-fn store(file: i32, name: &[u8], text: &[u8]) -> bool {
-    if io::write_all(file, text) {
-        if libc::fsync(file) == 0 {
-            if libc::close(file) == 0 {
-                return true;
-            }
-            fail(name);
-            return false;
-        }
-    }
-    fail(name);
-    libc::close(file);
-    false
+// Writes and closes the file; all of it is on the disk then.
+fn store<F: Write + OpenFile + Drop>(file: F, text: &[u8]) -> Result<()> {
+    let mut open = file;
+    open.write_all(text)?;
+    open.sync_all()
 }
 
-fn store_as(name: &[u8], path: &[u8], text: &[u8]) -> bool {
-    let file = os::create(name);
-    if file < 0 {
-        fail(name);
+// A file that was not there before.
+fn create<R: Files>(rt: &R, path: &[u8]) -> Result<R::File> {
+    OpenOptions::new()
+        .write(true)
+        .create_new(true)
+        .open(rt, name(path)?)
+}
+
+fn rename<R: Files>(rt: &R, from: &[u8], to: &[u8]) -> Result<()> {
+    fs::rename(rt, name(from)?, name(to)?)
+}
+
+fn remove<R: Files>(rt: &R, path: &[u8]) -> Result<()> {
+    fs::remove_file(rt, name(path)?)
+}
+
+// Stores the text in the new file of the temporary name.
+fn store_in<R: Files, E: Print>(
+    rt: &R,
+    err: &E,
+    file: R::File,
+    from: &[u8],
+    path: &[u8],
+    text: &[u8],
+) -> bool {
+    if let Err(reason) = store(file, text) {
+        fail(err, from, reason);
         return false;
     }
-    if store(file, name, text) {
-        if os::rename(name, path) == 0 {
-            return true;
-        }
-        fail(path);
+    if let Err(reason) = rename(rt, from, path) {
+        fail(err, path, reason);
+        return false;
     }
-    os::unlink(name);
-    false
+    true
+}
+
+fn store_as<R: Files, E: Print>(rt: &R, err: &E, from: &[u8], path: &[u8], text: &[u8]) -> bool {
+    match create(rt, from) {
+        Ok(file) => {
+            if store_in(rt, err, file, from, path, text) {
+                return true;
+            }
+            let _ = remove(rt, from);
+            false
+        }
+        Err(reason) => {
+            fail(err, from, reason);
+            false
+        }
+    }
 }
 
 // Under a temporary name first, the path and `.tcmend`.
-fn replace(path: &[u8], text: &[u8]) -> bool
+fn replace<R: Files, E: Print>(rt: &R, err: &E, path: &[u8], text: &[u8]) -> bool
     requires { length path.now ≤ 4096 }
 {
-    let mut name = [0u8; TEMPORARY_ROOM];
-    put_bytes(&mut name, 0, path);
-    put_bytes(&mut name, path.len(), b".tcmend");
+    let mut from = [0u8; TEMPORARY_ROOM];
+    put_bytes(&mut from, 0, path);
+    put_bytes(&mut from, path.len(), b".tcmend");
     let n = path.len() + 7;
-    store_as(&name[..n], path, text)
+    store_as(rt, err, &from[..n], path, text)
 }
 
 // ---- the program
 
-fn say_nothing_to_mend(file: i32, path: &[u8]) -> bool {
-    if io::write_all(file, path) {
-        return io::write_all(file, b": nothing to mend\n");
-    }
-    false
+fn say_nothing_to_mend<P: Print>(to: &P, path: &[u8]) -> Result<()> {
+    to.write_all(path)?;
+    to.write_all(b": nothing to mend\n")
 }
 
-// The notes on standard output or standard error.
-fn write_notes(file: i32, path: &[u8], db: &[u8], text: &[u8], records: &[u8])
+// The notes of all records, or that there are none.
+fn put_notes<P: Print>(to: &P, path: &[u8], db: &[u8], text: &[u8], records: &[u8]) -> Result<()>
     requires { (length path.now ≤ 4096) × (length db.now ≤ 1048576) × (length text.now ≤ 1048577) × (length records.now ≤ 1048577) }
 {
     if records.len() == 0 {
-        if !say_nothing_to_mend(file, path) {
-            fail(b"the notes");
-        }
-        return;
+        return say_nothing_to_mend(to, path);
     }
-    if !tell(file, path, db, records, count_descriptions(text)) {
-        fail(b"the notes");
+    tell(to, path, db, records, count_descriptions(text))
+}
+
+// The notes on standard output or standard error.
+fn write_notes<P: Print, E: Print>(
+    to: &P,
+    err: &E,
+    path: &[u8],
+    db: &[u8],
+    text: &[u8],
+    records: &[u8],
+)
+    requires { (length path.now ≤ 4096) × (length db.now ≤ 1048576) × (length text.now ≤ 1048577) × (length records.now ≤ 1048577) }
+{
+    if let Err(reason) = put_notes(to, path, db, text, records) {
+        fail(err, b"the notes", reason);
     }
 }
 
 // A database with nothing to mend is not written to a file.
-fn deliver(path: &[u8], new: &[u8], to_file: bool, db: &[u8], text: &[u8], records: &[u8])
+fn deliver<R: Files + Print, E: Print>(
+    rt: &R,
+    err: &E,
+    path: &[u8],
+    new: &[u8],
+    to_file: bool,
+    db: &[u8],
+    text: &[u8],
+    records: &[u8],
+)
     requires path_len_bound { (length path.now ≤ 4096) × (length new.now ≤ 4096) }
     requires db_len_bound { (length db.now ≤ 1048576) × (length text.now ≤ 1048577) × (length records.now ≤ 1048577) }
 {
     if to_file {
         if records.len() > 0 {
-            if !replace(new, text) {
+            if !replace(rt, err, new, text) {
                 return;
             }
         }
-        write_notes(STDOUT_FILENO, path, db, text, records);
+        write_notes(rt, err, path, db, text, records);
         return;
     }
-    if !io::write_all(STDOUT_FILENO, text) {
-        fail(b"standard output");
+    if let Err(reason) = rt.write_all(text) {
+        fail(err, b"standard output", reason);
         return;
     }
-    write_notes(STDERR_FILENO, path, db, text, records);
+    write_notes(err, err, path, db, text, records);
 }
 
-fn refuse(path: &[u8], r: Refusal) {
+fn refuse<E: Print>(err: &E, path: &[u8], r: Refusal) {
     match r {
-        Refusal::TooManyLines => report(path, b": more than 4096 descriptions\n"),
-        _ => report(path, b": more than 65536 things to remove\n"),
+        Refusal::TooManyLines => report(err, path, b": more than 4096 descriptions\n"),
+        _ => report(err, path, b": more than 65536 things to remove\n"),
     }
 }
 
-fn mend(path: &[u8], new: &[u8], to_file: bool, db: &[u8])
+fn mend<R: Files + Print, E: Print>(
+    rt: &R,
+    err: &E,
+    path: &[u8],
+    new: &[u8],
+    to_file: bool,
+    db: &[u8],
+)
     requires { (length path.now ≤ 4096) × (length new.now ≤ 4096) × (length db.now ≤ 1048576) }
 {
     let mut text = megabyte();
@@ -366,45 +422,52 @@ fn mend(path: &[u8], new: &[u8], to_file: bool, db: &[u8])
     match repair(db, &mut text, &mut records) {
         Repaired::Counts(bytes, count) => {
             let size = count * RECORD_SIZE;
-            deliver(path, new, to_file, db, &text[..bytes], &records[..size]);
+            deliver(
+                rt,
+                err,
+                path,
+                new,
+                to_file,
+                db,
+                &text[..bytes],
+                &records[..size],
+            );
         }
-        Repaired::Refused(r) => refuse(path, r),
+        Repaired::Refused(r) => refuse(err, path, r),
     }
 }
 
-fn mend_read(path: &[u8], new: &[u8], to_file: bool, db: &[u8])
+fn mend_read<R: Files + Print, E: Print>(
+    rt: &R,
+    err: &E,
+    path: &[u8],
+    new: &[u8],
+    to_file: bool,
+    db: &[u8],
+)
     requires { (length path.now ≤ 4096) × (length new.now ≤ 4096) }
 {
     if db.len() > MOST_BYTES {
-        report(path, b": more than 1048576 bytes\n");
+        report(err, path, b": more than 1048576 bytes\n");
         return;
     }
-    mend(path, new, to_file, db);
+    mend(rt, err, path, new, to_file, db);
 }
 
-fn mend_file(path: &[u8], new: &[u8], to_file: bool)
+fn mend_file<R: Files + Print, E: Print>(rt: &R, err: &E, path: &[u8], new: &[u8], to_file: bool)
     requires { (length path.now ≤ 4096) × (length new.now ≤ 4096) }
 {
-    let file = os::open_read(path);
-    if file < 0 {
-        fail(path);
-        return;
-    }
     let mut db = megabyte();
-    match read_file(file, &mut db) {
-        Input::Bytes(n) => {
-            libc::close(file);
-            mend_read(path, new, to_file, &db[..n]);
-        }
-        Input::Failed => {
-            fail(path);
-            libc::close(file);
-        }
+    match read_path(rt, path, &mut db) {
+        Input::Bytes(n) => mend_read(rt, err, path, new, to_file, &db[..n]),
+        Input::Failed(reason) => fail(err, path, reason),
     }
 }
 
-fn print_usage() {
+fn print_usage<O: Print, E: Print>(out: &O, err: &E) {
     program_io::print(
+        out,
+        err,
         b"tcmend",
         b"usage: tcmend FILE        writes the mended database to standard output
        tcmend FILE NEW    writes it to the file NEW, which may be FILE
@@ -420,48 +483,44 @@ The exit status says nothing: it is 0 in every case.
     );
 }
 
-fn mend_to(path: &[u8])
+fn mend_to<R: Env + Files + Print, E: Print>(rt: &R, err: &E, path: &[u8])
     requires { length path.now ≤ 4096 }
 {
     let mut new = io::buffer();
-    let n = os::arg(2, &mut new);
-    if os::errno() != 0 {
-        fail(&new);
-        return;
+    match argument(rt, 2, &mut new) {
+        Input::Bytes(n) => mend_file(rt, err, path, &new[..n], true),
+        Input::Failed(reason) => fail(err, &new, reason),
     }
-    mend_file(path, &new[..n], true);
 }
 
-fn mend_asked(path: &[u8], arguments: usize)
+fn mend_asked<R: Env + Files + Print, E: Print>(rt: &R, err: &E, path: &[u8])
     requires { length path.now ≤ 4096 }
 {
-    if arguments == 3 {
-        mend_to(path);
+    if has_argument(rt, 2) {
+        mend_to(rt, err, path);
         return;
     }
     if same(path, b"--help") {
-        print_usage();
+        print_usage(rt, err);
         return;
     }
-    mend_file(path, b"", false);
+    mend_file(rt, err, path, b"", false);
 }
 
-fn main() {
-    let arguments = os::arg_count();
-    if arguments != 2 {
-        if arguments != 3 {
-            io::write_all(
-                STDERR_FILENO,
-                b"tcmend: a file is wanted, and perhaps a new one; tcmend --help says more\n",
-            );
-            return;
-        }
-    }
-    let mut path = io::buffer();
-    let n = os::arg(1, &mut path);
-    if os::errno() != 0 {
-        fail(&path);
+fn run<R: Env + Files + Print, E: Print>(rt: &R, err: &E) {
+    if !has_argument(rt, 1) || has_argument(rt, 3) {
+        let _ = err.write_all(
+            b"tcmend: a file is wanted, and perhaps a new one; tcmend --help says more\n",
+        );
         return;
     }
-    mend_asked(&path[..n], arguments);
+    let mut path = io::buffer();
+    match argument(rt, 1, &mut path) {
+        Input::Bytes(n) => mend_asked(rt, err, &path[..n]),
+        Input::Failed(reason) => fail(err, &path, reason),
+    }
+}
+
+fn main(rt: HostRuntime) {
+    run(&rt, &rt.stderr());
 }
