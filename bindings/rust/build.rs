@@ -18,7 +18,7 @@ fn main() {
     // copy under a name of its own.
     let copies = variable("OUT_DIR");
     if let Err(error) = fs::copy(&archive, copies.join("libtermcap_proved.a")) {
-        panic!("{}: {error}: `rt staticlib termcap` writes it", archive.display());
+        panic!("{}: {error}: `./staticlib` writes it, in the repository's folder", archive.display());
     }
     println!("cargo:rustc-link-search=native={}", copies.display());
     // Not bundled into the rlib: the library is linked once, into the program.
