@@ -2,7 +2,7 @@
 // written no contract can say.
 #![tactic(auto)]
 
-ghost use Rattle.std.specs.Prelude.{◌+◌, ◌≤◌, ◌≡◌, length};
+ghost use Rattle.std.specs.Prelude.{◌+◌, ◌≤◌, ◌≡◌, IsUtf8, MatchResult, length};
 ghost use Rattle.std.proofs.lemmas.List.Edits.{sets};
 ghost use Rattle.io.specs.Counts.{IsPrefixLen};
 ghost use Rattle.spec.specs.Digits.{written};
@@ -120,8 +120,10 @@ pub fn argument<R: Env>(rt: &R, i: usize, buffer: &mut [u8]) -> Input
     }
 }
 
-// A file's name as std takes it: text in UTF-8.
-pub fn name(path: &[u8]) -> Result<&str> {
+// A file's name as std takes it: text in UTF-8, byte for byte the same.
+pub fn name(path: &[u8]) -> Result<&str>
+    ensures { MatchResult result (λ text. (text.now ≡ path.now) × IsUtf8 path.now) (λ e. ¬ (IsUtf8 path.now)) }
+{
     match std::str::from_utf8(path) {
         Ok(text) => Ok(text),
         Err(_) => Err(Error::new(ErrorKind::InvalidInput, "A name in UTF-8 is wanted")),
