@@ -1,5 +1,6 @@
 -- The answers: of one question by the tables, and of all in the lent buffer.
 -- Assumes nothing.
+use Rattle.std.specs.Prelude.{Option, Some, None, Result, Ok, Err}
 use Prim.Native.Nat.{ℕ, ◌+◌, ◌*◌, ◌/◌, ◌≤◌, ◌<◌}
 use mathlib.Core.Path.{◌≡◌, refl, ◌∙◌, ap, sym}
 use mathlib.Core.Bool.{Bool, true, false}
@@ -16,13 +17,10 @@ use Rattle.spec.specs.Fields.{kind_number, kind_of}
 use Rattle.spec.specs.Chain.{Field, Terminal, refused, terminal, joined_fields, resolve}
 use Rattle.spec.specs.Questions.{terminal_of, answer_for}
 use Rattle.spec.specs.Batch.{kind_answer, batch_answer, answer_bytes, batch_answers}
-use Rattle.spec.specs.declared.Numbered.TheVariants.{Is, Nothing}
 use Rattle.spec.specs.declared.Kind.{Kind}
 use Rattle.spec.specs.declared.Kind.TheVariants.{Flag, Number, String}
 use Rattle.spec.specs.declared.Refusal.{Refusal}
 use Rattle.spec.specs.declared.Refusal.TheVariants.{BadId}
-use Rattle.spec.specs.declared.Answer.{Answer}
-use Rattle.spec.specs.declared.Answer.TheVariants.{Refused}
 use Rattle.laws.proofs.Tests.{both_false}
 use Rattle.laws.proofs.TextSteps.{drop-next}
 use Rattle.laws.proofs.Stores.{stored-append}
@@ -32,8 +30,6 @@ use Rattle.laws.proofs.Records.{value-small}
 use Rattle.laws.proofs.AcceptedChain.{resolved_sound}
 use Rattle.chain.specs.Answers.{lines_of}
 use Rattle.chain.specs.declared.Chain.{Chain}
-use Rattle.chain.specs.declared.Ended.{Ended}
-use Rattle.chain.specs.declared.Ended.TheVariants.{Accepted, Refused as Broken}
 use Rattle.terminal.specs.Answers.{Resolved}
 use Rattle.capability_table.specs.Answers.{kept_answer, Answering}
 use Rattle.capability_table.proofs.Entries.{kind_some}
@@ -41,41 +37,42 @@ use Rattle.capability_table.proofs.Marking.{id_placed}
 use Rattle.capability_table.proofs.Answering.{answer-kept}
 use Rattle.batch.specs.Answers.{SmallValues, Known, Asked}
 use Rattle.batch.specs.declared.Question.{Question}
+use Rattle.batch.specs.declared.Tables.{Tables}
 
 -- ---- one question
 
 module _ (t : Terminal) (a b k z : ℕ) where
-  pub bad_id : id_bytes a b ≡ false → Refused BadId ≡ batch_answer t a b k z
+  pub bad_id : id_bytes a b ≡ false → Err BadId ≡ batch_answer t a b k z
   unfolding batch_answer
   bad_id e = rw e
 
-  pub bad_zero : (z ≡ 0 → ⊥) → Refused BadId ≡ batch_answer t a b k z
+  pub bad_zero : (z ≡ 0 → ⊥) → Err BadId ≡ batch_answer t a b k z
   unfolding batch_answer
   bad_zero h = rw (ne_eqb z 0 h, both_false (id_bytes a b))
 
-  pub bad_kind : Nothing ≡ kind_of k → Refused BadId ≡ batch_answer t a b k z
+  pub bad_kind : None ≡ kind_of k → Err BadId ≡ batch_answer t a b k z
   unfolding batch_answer
   bad_kind e =
-      go (both (id_bytes a b) (eqb z 0)) ∙ ap (λ n. pick (both (id_bytes a b) (eqb z 0)) (kind_answer n (a ∷ b ∷ []) t) (Refused BadId)) e
+      go (both (id_bytes a b) (eqb z 0)) ∙ ap (λ n. pick (both (id_bytes a b) (eqb z 0)) (kind_answer n (a ∷ b ∷ []) t) (Err BadId)) e
     where
-      go : (x : Bool) → Refused BadId ≡ pick x (Refused BadId) (Refused BadId)
+      go : (x : Bool) → ◌≡◌ {A = Result (Option ℕ) Refusal} (Err BadId) (pick x (Err BadId) (Err BadId))
       go true = refl
       go false = refl
 
-  module _ (good : id_bytes a b ≡ true) (zero : z ≡ 0) (kind : Kind) (is : Is kind ≡ kind_of k) where
+  module _ (good : id_bytes a b ≡ true) (zero : z ≡ 0) (kind : Kind) (is : Some kind ≡ kind_of k) where
     asked : batch_answer t a b k z ≡ answer_for (a ∷ b ∷ []) kind t
     unfolding batch_answer
     asked = rw (good, eq-eqb z 0 zero) (ap (λ n. kind_answer n (a ∷ b ∷ []) t) (sym is))
 
-    pub answer-refused : (r : Refusal) → t ≡ refused r → Refused r ≡ batch_answer t a b k z
+    pub answer-refused : (r : Refusal) → t ≡ refused r → Err r ≡ batch_answer t a b k z
     unfolding answer_for
     answer-refused r e = sym (asked ∙ ap (answer_for (a ∷ b ∷ []) kind) e)
 
-    pub answer-accepted : (marks values : List ℕ) (r : Answer) → r ≡ kept_answer marks values a b (kind_number kind) → Known t Accepted marks values
-        → r ≡ batch_answer t a b k z
+    pub answer-accepted : (tables : Tables) (r : Result (Option ℕ) Refusal) → r ≡ kept_answer tables.marks tables.values a b (kind_number kind)
+        → Known t (Ok tt) tables → r ≡ batch_answer t a b k z
     unfolding answer_for
-    answer-accepted marks values r q (names, fs, e, w, small) =
-        q ∙ answer-kept fs marks values w a b (kind_number kind) (id_placed a b (kind_number kind) good (kind_most kind)) (kind_some kind)
+    answer-accepted tables r q (names, fs, e, w, small) =
+        q ∙ answer-kept fs tables.marks tables.values w a b (kind_number kind) (id_placed a b (kind_number kind) good (kind_most kind)) (kind_some kind)
         (small (a ∷ b ∷ []) (kind_number kind))
         ∙ sym (asked ∙ ap (answer_for (a ∷ b ∷ []) kind) e)
       where
@@ -97,7 +94,7 @@ question-from l i h =
     (rw (drop-next l (4 * i + 3) (omega arith), four))
 
 -- a question's answer is stored, and those of the questions after it are left
-pub answered_on : (t : Terminal) (questions out : List ℕ) (i : ℕ) (q : Question) (x : Answer) → Asked questions i q
+pub answered_on : (t : Terminal) (questions out : List ℕ) (i : ℕ) (q : Question) (x : Result (Option ℕ) Refusal) → Asked questions i q
     → x ≡ batch_answer t q.0 q.1 q.2 q.3
     → sets out (8 * i) (batch_answers t (drop (4 * i) questions))
     ≡ sets (sets out (8 * i) (answer_bytes x)) (8 * (i + 1)) (batch_answers t (drop (4 * (i + 1)) questions))
@@ -129,11 +126,9 @@ module _ (db : Files) (name : List ℕ) (ends : good_ends db ≡ true) (good : g
   small-values names fs e id k t h = value-small t (omega (arith, hit-size id k fs t h, (resolved_sound (contents db) name names fs e).fits))
 
   -- by how the walk ended
-  pub known : (c : Chain) (w : Ended) (marks values : List ℕ) → Resolved db name c w → Answering (joined_fields (contents db) 0 (lines_of c)) marks values
-      → Known (resolve (contents db) name) w marks values
-  known c Accepted marks values q n = (_, _, walked ∙ q.0, n, small-values _ _ (walked ∙ q.0))
-  known c (Broken r) marks values q n = walked ∙ q.0
+  pub known : (c : Chain) (tables : Tables) → Resolved db name (Ok c) → Answering (joined_fields (contents db) 0 (lines_of c)) tables.marks tables.values
+      → Known (resolve (contents db) name) (Ok tt) tables
+  known c tables q n = (_, _, walked ∙ q.0, n, small-values _ _ (walked ∙ q.0))
 
-  pub few-places : (c : Chain) (w : Ended) → Resolved db name c w → c.count ≤ 32
-  few-places c Accepted q = q.2
-  few-places c (Broken r) q = rw q.1 (omega arith)
+  pub known_refused : (r : Refusal) → Resolved db name (Err r) → resolve (contents db) name ≡ refused r
+  known_refused r q = walked ∙ q

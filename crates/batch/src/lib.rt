@@ -12,17 +12,19 @@ ghost use Rattle.spec.specs.Chain.{joined_fields, resolve as resolved};
 ghost use Rattle.spec.specs.Answers.{written_report};
 ghost use Rattle.spec.specs.Listing.{four_bytes};
 ghost use Rattle.spec.specs.Batch.{answer_bytes, batch_answers, batch_outcome, batch_report};
+ghost use Rattle.spec.specs.Fields.{kind_number};
+ghost use Rattle.capability_table.specs.Answers.{kept_marks, kept_values};
 ghost use Rattle.chain.specs.Answers.{lines_of};
-ghost use Rattle.batch.specs.Answers.{Notes, NotesRead, NotesTexts, Asked, Answers, PutAnswers};
+ghost use Rattle.batch.specs.Answers.{Notes, NotesRead, NotesTexts, NotesTerminal, Asked, Answers, PutAnswers};
 
 use capability_table::{CANCEL, NAMES, VALUES, keep, kept_answer, meet};
-use chain::{Chain, Ended};
+use chain::Chain;
 use field_bounds::{AfterNames, after_names};
-use fields::{FieldRead, NextField, is_id, next_field};
+use fields::{Field, FieldRead, is_id, next_field};
 use files::{are_good_ends, file};
 use identifiers::is_good_name;
-use spec::{Answer, Kind, MOST_BYTES, Numbered, Refusal, Written};
-use stores::put_bytes;
+use spec::{Kind, MOST_BYTES, Refusal};
+use stores::{four_bytes, put_bytes};
 use terminal::resolve;
 
 const QUESTION_SIZE: usize = 4;
@@ -40,69 +42,70 @@ const ABSENT: u8 = 1;
 
 const REFUSED: u8 = 2;
 
+// What answers for each name and kind, and its value (`capability_table`).
+#[derive(Drop)]
+pub struct Tables {
+    pub marks: [u8; NAMES],
+    pub values: [u16; VALUES],
+}
+
+impl Tables {
+    fn keep(&mut self, a: u8, b: u8, kind: Kind, value: u64)
+        ensures { (self.new.marks ≡ kept_marks self.old.marks a b (kind_number kind))
+            × (self.new.values ≡ kept_values self.old.marks self.old.values a b (kind_number kind) value) }
+    {
+        keep(&mut self.marks, &mut self.values, a, b, kind, value);
+    }
+}
+
 // ---- the pass over the fields
 
 // Takes a field into the table, by what it is read as.
-fn note_field(read: FieldRead, marks: &mut [u8; NAMES], values: &mut [u16; VALUES])
-    ensures { NotesRead read marks.old values.old marks.new values.new }
+fn note_field(read: FieldRead, tables: &mut Tables)
+    ensures { NotesRead read tables.old tables.new }
 {
     match read {
         FieldRead::Cancel(a, b) => {
-            meet(marks, a, b, CANCEL);
+            meet(&mut tables.marks, a, b, CANCEL);
         }
-        FieldRead::Flag(a, b) => keep(marks, values, a, b, Kind::Flag, 1),
-        FieldRead::Number(a, b, v) => keep(marks, values, a, b, Kind::Number, v as u64),
-        FieldRead::String(a, b, _, n) => keep(marks, values, a, b, Kind::String, n as u64),
+        FieldRead::Flag(a, b) => tables.keep(a, b, Kind::Flag, 1),
+        FieldRead::Number(a, b, v) => tables.keep(a, b, Kind::Number, v as u64),
+        FieldRead::String(a, b, _, n) => tables.keep(a, b, Kind::String, n as u64),
         _ => {}
     }
 }
 
 // The same for all fields of the part of the database that starts after a line's names.
-fn note_fields(s: &[u8], marks: &mut [u8; NAMES], values: &mut [u16; VALUES])
-    ensures { NotesTexts (split (line_at s.now 0)) marks.old values.old
-        marks.new values.new }
+fn note_fields(s: &[u8], tables: &mut Tables)
+    ensures { NotesTexts (split (line_at s.now 0)) tables.old tables.new }
 {
     let mut at = 0;
     loop {
-        let NextField::Field(read, _, next) = next_field(s, at) else {
+        let Some(Field { read, next, .. }) = next_field(s, at) else {
             return;
         };
-        note_field(read, marks, values);
+        note_field(read, tables);
         at = next;
     }
 }
 
 // The same for all fields of the line at a place of a file.
-fn note_line(s: &[u8], at: usize, marks: &mut [u8; NAMES], values: &mut [u16; VALUES])
-    ensures { NotesTexts (fields_of (line_at s.now at)) marks.old values.old
-        marks.new values.new }
+fn note_line(s: &[u8], at: usize, tables: &mut Tables)
+    ensures { NotesTexts (fields_of (line_at s.now at)) tables.old tables.new }
 {
-    let AfterNames::At(from, _) = after_names(s, at) else {
+    let Some(AfterNames { fields, .. }) = after_names(s, at) else {
         return;
     };
-    note_fields(&s[from..], marks, values);
+    note_fields(&s[fields..], tables);
 }
 
 // The same for all fields of a chain.
-fn note_chain(
-    db: &[u8],
-    ends: &[usize],
-    c: Chain,
-    marks: &mut [u8; NAMES],
-    values: &mut [u16; VALUES],
-)
+fn note_chain(db: &[u8], ends: &[usize], c: Chain, tables: &mut Tables)
     requires { c.count ≤ 32 }
-    ensures { Notes (joined_fields (contents (files db.now ends.now)) 0 (lines_of c)) marks.old values.old
-        marks.new values.new }
+    ensures { Notes (joined_fields (contents (files db.now ends.now)) 0 (lines_of c)) tables.old tables.new }
 {
-    let lines = c.lines;
-    let n = c.count;
-    let mut i = 0;
-    while i < n {
-        let p = lines[i];
-        let k = p.file;
-        note_line(file(db, ends, k), p.at, marks, values);
-        i += 1;
+    for p in &c.lines[..c.count] {
+        note_line(file(db, ends, p.file), p.at, tables);
     }
 }
 
@@ -112,52 +115,39 @@ fn note_chain(
 fn put_parts(out: &mut [u8], at: usize, status: u8, refusal: u8, value: u32)
     ensures { out.new ≡ sets out.old at (status ∷ refusal ∷ 0 ∷ 0 ∷ four_bytes value) }
 {
-    let answer = [
-        status,
-        refusal,
-        0,
-        0,
-        (value / 16777216 % 256) as u8,
-        (value / 65536 % 256) as u8,
-        (value / 256 % 256) as u8,
-        (value % 256) as u8,
-    ];
-    put_bytes(out, at, &answer);
+    let [a, b, c, d] = four_bytes(value as u64);
+    put_bytes(out, at, &[status, refusal, 0, 0, a, b, c, d]);
 }
 
-fn put_answer(out: &mut [u8], at: usize, answer: Answer)
+fn put_answer(out: &mut [u8], at: usize, answer: Result<Option<u32>, Refusal>)
     ensures { out.new ≡ sets out.old at (answer_bytes answer) }
 {
     match answer {
-        Answer::Present(v) => put_parts(out, at, PRESENT, 0, v),
-        Answer::Absent => put_parts(out, at, ABSENT, 0, 0),
-        Answer::Refused(r) => put_parts(out, at, REFUSED, r.number(), 0),
+        Ok(value) => match value {
+            Some(v) => put_parts(out, at, PRESENT, 0, v),
+            None => put_parts(out, at, ABSENT, 0, 0),
+        },
+        Err(r) => put_parts(out, at, REFUSED, r.number(), 0),
     }
 }
 
 // "A bad id, kind or fourth byte is refused 2 in its own answer, before what the walk refuses there."
 fn answer_one(
     question: Question,
-    ended: Ended,
-    marks: &[u8; NAMES],
-    values: &[u16; VALUES],
-) -> Answer
-    ensures { Answers question ended marks.now values.now result }
+    walked: Result<(), Refusal>,
+    tables: &Tables,
+) -> Result<Option<u32>, Refusal>
+    ensures { Answers question walked tables.now result }
 {
     let Question(a, b, k, z) = question;
-    if !is_id(a, b) {
-        return Answer::Refused(Refusal::BadId);
+    if !is_id(a, b) || z != 0 {
+        return Err(Refusal::BadId);
     }
-    if z != 0 {
-        return Answer::Refused(Refusal::BadId);
-    }
-    let Numbered::Is(kind) = Kind::from_number(k) else {
-        return Answer::Refused(Refusal::BadId);
+    let Some(kind) = Kind::from_number(k) else {
+        return Err(Refusal::BadId);
     };
-    match ended {
-        Ended::Refused(r) => Answer::Refused(r),
-        Ended::Accepted => kept_answer(marks, values, a, b, kind),
-    }
+    walked?;
+    kept_answer(&tables.marks, &tables.values, a, b, kind)
 }
 
 fn question_at(questions: &[u8], i: usize) -> Question
@@ -174,23 +164,24 @@ fn question_at(questions: &[u8], i: usize) -> Question
 }
 
 // Answers each question, in order.
-fn put_answers(
-    questions: &[u8],
-    ended: Ended,
-    marks: &[u8; NAMES],
-    values: &[u16; VALUES],
-    out: &mut [u8],
-)
+fn put_answers(questions: &[u8], walked: Result<(), Refusal>, tables: &Tables, out: &mut [u8])
     requires { length questions.now / 4 * 8 ≤ length out.old }
-    ensures { PutAnswers questions.now ended marks.now values.now out.old out.new }
+    ensures { PutAnswers questions.now walked tables.now out.old out.new }
 {
-    let n = questions.len() / QUESTION_SIZE;
-    let mut i = 0;
-    while i < n {
-        let answer = answer_one(question_at(questions, i), ended, marks, values);
+    for i in 0..questions.len() / QUESTION_SIZE {
+        let answer = answer_one(question_at(questions, i), walked, tables);
         put_answer(out, ANSWER_SIZE * i, answer);
-        i += 1;
     }
+}
+
+// Takes all fields of a terminal into the tables, or says why the walk is refused.
+fn note_terminal(db: &[u8], ends: &[usize], name: &[u8], tables: &mut Tables) -> Result<(), Refusal>
+    requires { (good_ends (files db.now ends.now) ≡ true) × (good_name name.now ≡ true) × (length db.now ≤ 1048576) }
+    ensures { NotesTerminal (resolved (contents (files db.now ends.now)) name.now) tables.old result tables.new }
+{
+    let chain = resolve(db, ends, name)?;
+    note_chain(db, ends, chain, tables);
+    Ok(())
 }
 
 // Answers all questions, for which there is room.
@@ -200,36 +191,42 @@ fn answer_all(db: &[u8], ends: &[usize], name: &[u8], questions: &[u8], out: &mu
     ensures { out.new ≡ sets out.old 0
         (batch_answers (resolved (contents (files db.now ends.now)) name.now) questions.now) }
 {
-    let w = resolve(db, ends, name);
-    let ended = w.ended;
-    let mut marks = [0u8; NAMES];
-    let mut values = [0u16; VALUES];
-    note_chain(db, ends, w.chain, &mut marks, &mut values);
-    put_answers(questions, ended, &marks, &values, out);
+    let mut tables = Tables {
+        marks: [0u8; NAMES],
+        values: [0u16; VALUES],
+    };
+    let walked = note_terminal(db, ends, name, &mut tables);
+    put_answers(questions, walked, &tables, out);
 }
 
 // "The whole call is refused with 1, 3, 15 and 9, in that order", and 16 before all others: none of them needs the walk.
-pub fn batch(db: &[u8], ends: &[usize], name: &[u8], questions: &[u8], out: &mut [u8]) -> Written
+pub fn batch(
+    db: &[u8],
+    ends: &[usize],
+    name: &[u8],
+    questions: &[u8],
+    out: &mut [u8],
+) -> Result<usize, Refusal>
     ensures { (result ≡ (batch_outcome (files db.now ends.now) name.now questions.now out.old).answer)
         × (out.new ≡ (batch_outcome (files db.now ends.now) name.now questions.now out.old).buffer)
         × (written_report result ≡ batch_report (files db.now ends.now) name.now questions.now out.old) }
 {
     if !are_good_ends(db, ends) {
-        return Written::Refused(Refusal::BadEnds);
+        return Err(Refusal::BadEnds);
     }
     if !is_good_name(name) {
-        return Written::Refused(Refusal::BadName);
+        return Err(Refusal::BadName);
     }
     if db.len() > MOST_BYTES {
-        return Written::Refused(Refusal::DatabaseTooLarge);
+        return Err(Refusal::DatabaseTooLarge);
     }
     if questions.len() % QUESTION_SIZE != 0 {
-        return Written::Refused(Refusal::PartialQuestion);
+        return Err(Refusal::PartialQuestion);
     }
     let n = questions.len() / QUESTION_SIZE;
     if n > out.len() / ANSWER_SIZE {
-        return Written::Refused(Refusal::NoRoom);
+        return Err(Refusal::NoRoom);
     }
     answer_all(db, ends, name, questions, out);
-    Written::Count(n)
+    Ok(n)
 }

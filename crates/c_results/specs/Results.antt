@@ -1,10 +1,10 @@
 -- What a C function returns and stores for the report of an answer: 0, and the values are stored; 255 if there are no values (absent); for a
 -- refusal its number. Where there are no values, what was stored stays.
-use Rattle.std.specs.Prelude.{ℕ, ◌-◌, ◌≤◌, ◌≡◌, Bool, not, List, [], ◌∷◌, eqb}
+use Rattle.std.specs.Prelude.{ℕ, ◌-◌, ◌≤◌, Bool, not, List, [], ◌∷◌, eqb, Result, Ok, Err}
 use Rattle.spec.specs.Choice.{pick}
 use Rattle.spec.specs.Answers.{Report}
-use Rattle.spec.specs.declared.Shown.{Shown}
-use Rattle.spec.specs.declared.Shown.TheVariants.{Part, Refused}
+use Rattle.spec.specs.declared.Refusal.{Refusal}
+use Rattle.spec.specs.declared.Part.{Part}
 
 abbrev pub accepted_result : List ℕ → ℕ
 accepted_result [] = 255
@@ -49,15 +49,11 @@ stored_second p old = second_or p.values old
 unfoldable pub stored_third : Report → ℕ → ℕ
 stored_third p old = third_or p.values old
 
--- What a function with one value gives: its result, and what is stored where another number was.
-abbrev pub Gives : Report → ℕ → ℕ → ℕ → Type 0
-Gives p r old new = (r ≡ result_of p) × (new ≡ stored_value p old)
-
 -- A star is stored as 1, and any number but 0 is taken for one.
 abbrev pub has_star : ℕ → Bool
 has_star n = not (eqb n 0)
 
 -- A part does not end before it starts.
-abbrev pub Ordered : Shown → Type 0
-Ordered (Part from to) = from ≤ to
-Ordered (Refused r) = Unit {0}
+abbrev pub Ordered : Result Part Refusal → Type 0
+Ordered (Ok p) = p.from ≤ p.to
+Ordered (Err r) = Unit {0}

@@ -1,5 +1,6 @@
 -- The tables of what answers: over no field, over one field more, and the answer that they have for a question.
 -- Assumes nothing.
+use Rattle.std.specs.Prelude.{Some, None, Ok}
 use Prim.Native.Nat.{ℕ, zero, suc, ◌%◌, ◌≤◌, ◌<◌}
 use mathlib.Core.Path.{◌≡◌, refl, ◌∙◌, ap, sym}
 use mathlib.Core.Bool.{Bool, true, false, not}
@@ -14,7 +15,6 @@ use Rattle.spec.specs.Fields.{Content, cancel, capability, reading, content_kind
 use Rattle.spec.specs.Chain.{Field}
 use Rattle.spec.specs.Lookup.{Hit, none, hit, matches, lookup, cancelled, is_present, is_live, value_of}
 use Rattle.spec.specs.Questions.{hit_answer}
-use Rattle.spec.specs.declared.Answer.TheVariants.{Present, Absent}
 use Rattle.laws.proofs.Tests.{both_false, both_true}
 use Rattle.laws.proofs.WholeLines.{same_equal}
 use Rattle.laws.proofs.LookupSteps.{lookup-passed, lookup_taken, cancelled_one_more}
@@ -170,7 +170,8 @@ module _ (fs : List Field) (f : Field) (marks values : List ℕ) (w : Answering 
             (other-value a b (content_kind c) x y k n m some h)
         go false = refl
 
-    kept-marked : (x y k : ℕ) → pick (both answers (here a b c reads x y k)) 1 (bit (is_marked (x ∷ y ∷ []) k fs)) ≡ bit (is_marked (x ∷ y ∷ []) k (fs ++ f ∷ []))
+    kept-marked : (x y k : ℕ) → pick (both answers (here a b c reads x y k)) 1 (bit (is_marked (x ∷ y ∷ []) k fs))
+        ≡ bit (is_marked (x ∷ y ∷ []) k (fs ++ f ∷ []))
     kept-marked x y zero =
         rw (nowhere x y, both_false answers, mark_stays (x ∷ y ∷ []) 0 (here_matches a b c reads x y 0 ∙ nowhere x y))
     kept-marked x y (suc k) = rw (lookup-after x y (suc k)) (go (both answers (here a b c reads x y (suc k))) (lookup (x ∷ y ∷ []) (suc k) fs))
@@ -209,8 +210,8 @@ unfolding is_kept hit_answer
 answer-kept fs marks values w a b k p i small =
     rw (p, w.marked a b k p, mark_live (a ∷ b ∷ []) k fs i, bit_is (is_live (a ∷ b ∷ []) k fs)) (go (lookup (a ∷ b ∷ []) k fs) refl)
   where
-    go : (h : Hit) → lookup (a ∷ b ∷ []) k fs ≡ h → pick (is_present h) (Present (get_or values (value_key a b k) 0)) Absent ≡ hit_answer h
+    go : (h : Hit) → lookup (a ∷ b ∷ []) k fs ≡ h → pick (is_present h) (Ok (Some (get_or values (value_key a b k) 0))) (Ok None) ≡ hit_answer h
     go none e = refl
     go (hit t) e =
         let v : get_or values (value_key a b k) 0 ≡ value_of (reading t) = omega (arith, w.kept a b k t p i e, small t e) in
-        ap Present v
+        rw v

@@ -1,18 +1,21 @@
 -- The places of the table, and the bits of a byte.
 -- Assumes nothing.
-use Prim.Native.Nat.{ℕ, zero, suc, ◌+◌, ◌*◌, ◌/◌, ◌%◌, ◌≤◌, ◌<◌}
+use Prim.Native.Nat.{ℕ, zero, suc, ◌+◌, ◌*◌, ◌/◌, ◌%◌, ◌^◌, ◌≤◌, ◌<◌}
 use mathlib.Core.Path.{◌≡◌, refl, ◌∙◌, ap, sym}
 use mathlib.Core.Bool.{Bool, true, false}
 use mathlib.Core.List.{List, [], ◌∷◌}
-use native.Mathlib.Nat.{div-div-eq-div-mul}
 use native.Mathlib.Omega.{arith}
-use borrow.Author.Tests.{eqb-true, eqb-false, eq-eqb, leb-true, le-leb, lt-leb}
+use borrow.Author.Tests.{eqb-true, eqb-false, eq-eqb, leb-true, le-leb}
 use lib.Dec.{eqb, leb}
+use Rattle.std.specs.Int.{bit_at}
+use Rattle.std.specs.Int.Bits.{bit_and, bit_or, or_zero_r}
+use Rattle.std.proofs.lemmas.Nat.{one_shl, or_block}
+use Rattle.std.proofs.lemmas.Nat.Bits.{shr_and_one, bit_at-suc, bit_at_lowest}
 use lib.ListN.{length, get_or, set}
 use lib.Seq.{get_or-set_same, get_or-set_other}
 use Rattle.spec.specs.Choice.{pick, both, between}
 use Rattle.spec.specs.Lists.{same}
-use Rattle.laws.proofs.Tests.{clash, both_true, both_false}
+use Rattle.laws.proofs.Tests.{clash, both_true}
 use Rattle.laws.proofs.WholeLines.{same_equal, equal_same}
 use Rattle.spec.specs.Fields.{kind_number}
 use Rattle.spec.specs.declared.Kind.{Kind}
@@ -48,22 +51,6 @@ module _ (a b k : ℕ) where
   pub entry_kind : 33 ≤ a → a ≤ 126 → 33 ≤ b → b ≤ 126 → has_entry a b k ≡ leb k 3
   unfolding has_entry
   entry_kind h i j l = rw (le-leb 33 a h, le-leb a 126 i, le-leb 33 b j, le-leb b 126 l)
-
-  pub first_below : a < 33 → has_entry a b k ≡ false
-  unfolding has_entry
-  first_below h = rw (lt-leb 33 a h)
-
-  pub first_above : 126 < a → has_entry a b k ≡ false
-  unfolding has_entry
-  first_above h = rw (lt-leb a 126 h, both_false (leb 33 a))
-
-  pub second_below : b < 33 → has_entry a b k ≡ false
-  unfolding has_entry
-  second_below h = rw (lt-leb 33 b h, both_false (between 33 126 a))
-
-  pub second_above : 126 < b → has_entry a b k ≡ false
-  unfolding has_entry
-  second_above h = rw (lt-leb b 126 h, both_false (leb 33 b), both_false (between 33 126 a))
 
 -- each has a place in the table, and none another's
 pub key_inside : (a b k : ℕ) → Entry a b k → key_of a b < 8836
@@ -137,33 +124,39 @@ bit-other (suc j) (suc k) x h =
     let e : (with_bit k (x / 2) * 2 + x % 2) / 2 ≡ with_bit k (x / 2) = omega arith in
     rw e (bit-other j k (x / 2) (λ q. h (ap suc q)))
 
--- the bits of the kinds by one division
-module _ (x : ℕ) where
-  pub bit_two : x / 4 % 2 ≡ bit_of 2 x
-  unfolding bit_of
-  bit_two = omega arith
+-- a bit as the code reads it, and sets it
+pub bit_shifted : (k x : ℕ) → bit_and (x / 2 ^ k) 1 ≡ bit_of k x
+unfolding bit_of
+bit_shifted k x = shr_and_one x k ∙ go k x
+  where
+    go : (k x : ℕ) → bit_at x k ≡ bit_of k x
+    go zero x = bit_at_lowest x
+    go (suc k) x = bit_at-suc x k ∙ go k (x / 2)
 
-  pub bit_three : x / 8 % 2 ≡ bit_of 3 x
-  unfolding bit_of
-  bit_three = omega arith
+set_power : (k x : ℕ) → bit_or x (2 ^ k) ≡ with_bit k x
+unfolding with_bit
+set_power zero x = ap (λ (n : ℕ). bit_or n 1) parts ∙ or_block 1 (x / 2) 0 (x % 2) 1 (omega arith) (omega arith)
+    ∙ rw or_zero_r (ap (λ (n : ℕ). x / 2 * 2 + n) (low (x % 2) (omega arith)))
+  where
+    parts : x ≡ x / 2 * 2 + x % 2
+    parts = omega arith
 
-  pub with_one : x / 4 * 4 + 2 + x % 2 ≡ with_bit 1 x
-  unfolding with_bit
-  with_one = omega arith
+    low : (n : ℕ) → n < 2 → bit_or n 1 ≡ 1
+    low zero h = refl
+    low (suc zero) h = refl
+    low (suc (suc n)) h = absurd (omega arith)
+set_power (suc k) x =
+    ap (λ (n : ℕ). bit_or n (2 ^ suc k)) parts ∙ ap (bit_or (x / 2 * 2 + x % 2)) power ∙ or_block 1 (x / 2) (2 ^ k) (x % 2) 0 (omega arith) (omega arith)
+    ∙ rw (or_zero_r (x % 2), set_power k (x / 2))
+  where
+    parts : x ≡ x / 2 * 2 + x % 2
+    parts = omega arith
 
-  mod_four : x % 4 ≡ x / 2 % 2 * 2 + x % 2
-  mod_four = omega (arith, div-div-eq-div-mul x 2 2)
+    power : 2 ^ suc k ≡ 2 ^ k * 2 + 0
+    power = omega arith
 
-  mod_eight : x % 8 ≡ x / 4 % 2 * 4 + x % 4
-  mod_eight = omega (arith, div-div-eq-div-mul x 4 2)
-
-  pub with_two : x / 8 * 8 + 4 + x % 4 ≡ with_bit 2 x
-  unfolding with_bit
-  with_two = rw (mod_four, ← div-div-eq-div-mul x 4 2, ← div-div-eq-div-mul x 2 2) (omega arith)
-
-  pub with_three : x / 16 * 16 + 8 + x % 8 ≡ with_bit 3 x
-  unfolding with_bit
-  with_three = rw (mod_eight, mod_four, ← div-div-eq-div-mul x 8 2, ← div-div-eq-div-mul x 4 2, ← div-div-eq-div-mul x 2 2) (omega arith)
+pub bit_set : (k x : ℕ) → k ≤ 3 → bit_or x (1 * 2 ^ k % 256) ≡ with_bit k x
+bit_set k x h = ap (bit_or x) (one_shl k 8 (omega arith)) ∙ set_power k x
 
 -- a bit set for one name and number, read for another
 pub bit-after : (t : List ℕ) (a b k x y j : ℕ) → length t ≡ 8836 → Entry a b k → Entry x y j

@@ -1,12 +1,11 @@
 -- The table of what answers: marks for each name, and a value for each name and kind.
-use Rattle.std.specs.Prelude.{ℕ, zero, suc, ◌+◌, ◌-◌, ◌*◌, ◌%◌, ◌≤◌, ◌≡◌, Bool, true, List, [], ◌∷◌, eqb, length, get_or, set}
+use Rattle.std.specs.Prelude.{ℕ, zero, suc, ◌+◌, ◌-◌, ◌*◌, ◌%◌, ◌≤◌, ◌≡◌, Bool, true, List, [], ◌∷◌, eqb, length, get_or, set, Option, Some, None, Result, Ok}
 use Rattle.spec.specs.Choice.{pick, both}
 use Rattle.spec.specs.Fields.{reading}
 use Rattle.spec.specs.Chain.{Field}
 use Rattle.spec.specs.Lookup.{hit, lookup, cancelled, is_live, value_of}
-use Rattle.spec.specs.declared.Answer.{Answer}
-use Rattle.spec.specs.declared.Answer.TheVariants.{Present, Absent}
 use Rattle.capability_table.specs.Table.{bit_of, with_bit, is_open, has_entry, key_of, bit}
+use Rattle.spec.specs.declared.Refusal.{Refusal}
 
 abbrev pub value_key : ℕ → ℕ → ℕ → ℕ
 value_key a b k = (k - 1) * 8836 + key_of a b
@@ -25,8 +24,8 @@ kept_values marks values a b k v = pick (answers_now marks a b k) (set values (v
 unfoldable pub is_kept : List ℕ → ℕ → ℕ → ℕ → Bool
 is_kept marks a b k = both (has_entry a b k) (eqb (bit_of k (get_or marks (key_of a b) 0)) 1)
 
-abbrev pub kept_answer : List ℕ → List ℕ → ℕ → ℕ → ℕ → Answer
-kept_answer marks values a b k = pick (is_kept marks a b k) (Present (get_or values (value_key a b k) 0)) Absent
+abbrev pub kept_answer : List ℕ → List ℕ → ℕ → ℕ → ℕ → Result (Option ℕ) Refusal
+kept_answer marks values a b k = pick (is_kept marks a b k) (Ok (Some (get_or values (value_key a b k) 0))) (Ok None)
 
 -- ---- the fields that were passed
 

@@ -2,12 +2,12 @@
 // nothing was met. Listing marks what was met; a batch marks what answers, and keeps its value.
 #![tactic(auto)]
 
-ghost use Rattle.std.specs.Prelude.{◌≡◌, ◌≤◌, eqb};
+ghost use Rattle.std.specs.Prelude.{◌≡◌, ◌≤◌, ◌<◌, ◌+◌, ◌-◌, ◌*◌, true, false, eqb, MatchOption};
 ghost use Rattle.spec.specs.Fields.{kind_number};
 ghost use Rattle.capability_table.specs.Table.{has_entry, key_of, bit_of, with_bit, is_open, is_first, marked};
-ghost use Rattle.capability_table.specs.Answers.{value_key, kept_marks, kept_values, kept_answer};
+ghost use Rattle.capability_table.specs.Answers.{kept_marks, kept_values, kept_answer};
 
-use spec::{Answer, Kind};
+use spec::{Kind, Refusal};
 
 // The bytes 33..126, of which a name has two.
 const LOWEST: u8 = 33;
@@ -24,76 +24,56 @@ pub const VALUES: usize = 3 * NAMES;
 // The number of a cancel, beside those of the kinds.
 pub const CANCEL: u8 = 0;
 
-fn has_entry(a: u8, b: u8, kind: u8) -> bool
-    ensures { result ≡ has_entry a b kind }
+// The place of a name, if the table has one for it and for the number of a kind.
+#[tactic(auto, unfolding(crate::specs::Table::has_entry))]
+fn place_of(a: u8, b: u8, kind: u8) -> Option<usize>
+    ensures { MatchOption result (has_entry a b kind ≡ false)
+        (λ at. (has_entry a b kind ≡ true) × (at ≡ key_of a b) × (at < 8836) × (kind ≤ 3)) }
 {
-    if a < LOWEST {
-        return false;
+    match (a, b, kind) {
+        (LOWEST..=HIGHEST, LOWEST..=HIGHEST, CANCEL..=Kind::STRING) => {
+            Some((a - LOWEST) as usize * NAME_BYTES + (b - LOWEST) as usize)
+        }
+        _ => None,
     }
-    if a > HIGHEST {
-        return false;
-    }
-    if b < LOWEST {
-        return false;
-    }
-    if b > HIGHEST {
-        return false;
-    }
-    kind <= Kind::STRING
-}
-
-fn key(a: u8, b: u8) -> usize
-    requires { (33 ≤ a) × (33 ≤ b) }
-    ensures { result ≡ key_of a b }
-{
-    (a - LOWEST) as usize * NAME_BYTES + (b - LOWEST) as usize
 }
 
 // The bit of a kind's number in a byte of the table.
+#[tactic(auto, using(crate::proofs::Entries::bit_shifted))]
 fn has_bit(x: u8, kind: u8) -> bool
     requires { kind ≤ 3 }
     ensures { result ≡ eqb (bit_of kind x) 1 }
 {
-    match kind {
-        0 => x % 2 == 1,
-        1 => x / 2 % 2 == 1,
-        2 => x / 4 % 2 == 1,
-        _ => x / 8 % 2 == 1,
-    }
+    x >> kind & 1 == 1
 }
 
+#[tactic(auto, using(crate::proofs::Entries::bit_set))]
 fn with_bit(x: u8, kind: u8) -> u8
     requires { kind ≤ 3 }
     ensures { result ≡ with_bit kind x }
 {
-    match kind {
-        0 => x / 2 * 2 + 1,
-        1 => x / 4 * 4 + 2 + x % 2,
-        2 => x / 8 * 8 + 4 + x % 4,
-        _ => x / 16 * 16 + 8 + x % 8,
-    }
+    x | 1 << kind
 }
 
 // Whether neither a cancel nor the kind is marked.
+#[tactic(auto, unfolding(crate::specs::Table::is_open))]
 fn is_open(x: u8, kind: u8) -> bool
     requires { kind ≤ 3 }
     ensures { result ≡ is_open kind x }
 {
-    if has_bit(x, CANCEL) {
-        return false;
-    }
-    !has_bit(x, kind)
+    !has_bit(x, CANCEL) && !has_bit(x, kind)
 }
 
 // Marks a capability, by its name and the number of its kind, as met. Whether it is the first: neither a cancel of its name nor a
 // field of its name and kind was met before. The table has no place for another name or number: it is passed over as if nothing was met.
+// By number and not by an enum: `is_first` and `marked` promise an answer for every number, a cancel's 0 and those of no kind among them.
+#[tactic(auto, unfolding(crate::specs::Table::is_first, crate::specs::Table::marked))]
 pub fn meet(table: &mut [u8; NAMES], a: u8, b: u8, kind: u8) -> bool
     ensures { (result ≡ is_first table.old a b kind) × (table.new ≡ marked table.old a b kind) }
 {
-    if !has_entry(a, b, kind) {
+    let Some(at) = place_of(a, b, kind) else {
         return true;
-    }
-    let at = key(a, b);
+    };
     let x = table[at];
     table[at] = with_bit(x, kind);
     is_open(x, kind)
@@ -101,16 +81,17 @@ pub fn meet(table: &mut [u8; NAMES], a: u8, b: u8, kind: u8) -> bool
 
 // ---- what answers
 
-// The place of a kind's value, by the kind's number.
-fn value_key(a: u8, b: u8, kind: u8) -> usize
-    requires { (33 ≤ a) × (33 ≤ b) × (1 ≤ kind) }
-    ensures { result ≡ value_key a b kind }
+// The place of a kind's value, by the place of the name.
+fn value_place(at: usize, kind: u8) -> usize
+    requires { (at < 8836) × (1 ≤ kind) × (kind ≤ 3) }
+    ensures { result ≡ (kind - 1) * 8836 + at }
 {
-    (kind - Kind::FLAG) as usize * NAMES + key(a, b)
+    (kind - Kind::FLAG) as usize * NAMES + at
 }
 
 // Marks a flag, a number or a string as the one that answers, and keeps its value modulo 65,536, unless a cancel of its name or a field of
 // its name and kind was marked before. A cancel is marked by `meet`.
+#[tactic(auto, unfolding(crate::specs::Answers::answers_now))]
 pub fn keep(
     marks: &mut [u8; NAMES],
     values: &mut [u16; VALUES],
@@ -123,35 +104,34 @@ pub fn keep(
         × (values.new ≡ kept_values marks.old values.old a b (kind_number kind) value) }
 {
     let number = kind.number();
-    if !has_entry(a, b, number) {
+    let Some(at) = place_of(a, b, number) else {
         return;
-    }
-    let at = key(a, b);
+    };
     let x = marks[at];
     if !is_open(x, number) {
         return;
     }
     marks[at] = with_bit(x, number);
-    values[value_key(a, b, number)] = (value % 65536) as u16;
-}
-
-fn wide(v: u16) -> u32
-    ensures { result ≡ v }
-{
-    v as u32
+    values[value_place(at, number)] = (value % 65536) as u16;
 }
 
 // What answers for a name and a kind.
-pub fn kept_answer(marks: &[u8; NAMES], values: &[u16; VALUES], a: u8, b: u8, kind: Kind) -> Answer
+#[tactic(auto, unfolding(crate::specs::Answers::is_kept))]
+pub fn kept_answer(
+    marks: &[u8; NAMES],
+    values: &[u16; VALUES],
+    a: u8,
+    b: u8,
+    kind: Kind,
+) -> Result<Option<u32>, Refusal>
     ensures { result ≡ kept_answer marks.now values.now a b (kind_number kind) }
 {
     let number = kind.number();
-    if !has_entry(a, b, number) {
-        return Answer::Absent;
+    let Some(at) = place_of(a, b, number) else {
+        return Ok(None);
+    };
+    if !has_bit(marks[at], number) {
+        return Ok(None);
     }
-    let x = marks[key(a, b)];
-    if !has_bit(x, number) {
-        return Answer::Absent;
-    }
-    Answer::Present(wide(values[value_key(a, b, number)]))
+    Ok(Some(u32::from(values[value_place(at, number)])))
 }

@@ -1,11 +1,7 @@
 -- The fields of a line, and the number or the bytes that a field stands for.
-use Rattle.std.specs.Prelude.{ℕ, zero, suc, ◌+◌, ◌-◌, ◌*◌, List, [], ◌∷◌, eqb, ltb, length, drop}
+use Rattle.std.specs.Prelude.{ℕ, zero, suc, ◌+◌, ◌-◌, ◌*◌, List, [], ◌∷◌, eqb, ltb}
 use Rattle.spec.specs.Choice.{pick, between}
 use Rattle.spec.specs.Lists.{upto, past}
-
--- The first place from `at` on where b stands, or the end; `at` itself if it lies past the end.
-abbrev pub place_of : List ℕ → ℕ → ℕ → ℕ
-place_of s at b = at + length (upto b (drop at s))
 
 -- What stands after k bars (124).
 unfoldable pub after : ℕ → List ℕ → List ℕ

@@ -3,57 +3,29 @@
 // A bar stands after each field of a line but the last. In a text a backslash and two hexadecimal digits stand for a byte.
 #![tactic(auto)]
 
-ghost use Rattle.std.specs.Prelude.{◌≡◌, ◌∷◌, ◌≤◌, ◌<◌, min, max, length, drop};
+ghost use Rattle.std.specs.Prelude.{◌≡◌, ◌==◌, ◌∷◌, ◌≤◌, [], MatchOption, slice_get, min, length};
+ghost use Rattle.std.specs.List.{slice_split};
+ghost use Rattle.std.specs.Option.{option_map};
 ghost use Rattle.std.proofs.lemmas.List.Edits.{sets};
 ghost use Rattle.io.specs.Counts.{IsPrefixLen};
-ghost use Rattle.case_lines.specs.Fields.{place_of, after, field_of, digit_of, number_of, hex_digit_of, bytes_of, text_of};
+ghost use Rattle.case_lines.specs.Fields.{field_of, digit_of, number_of, hex_digit_of, bytes_of, text_of};
 
-use spec::Written;
+use spec::{Part, Refusal};
 
-// A byte of a text, and the place after what it is written as.
-#[derive(Clone, Copy)]
-struct Decoded {
-    byte: u8,
-    next: usize,
-}
-
-// The first place from `at` on where a byte stands, or the end; `at` itself if it lies past the end.
-pub fn find(s: &[u8], at: usize, b: u8) -> usize
-    ensures { (result ≡ place_of s.now at b) × (result ≤ max at (length s.now)) }
+// What stands between two bars, if there are as many.
+fn piece(line: &[u8], k: usize) -> Option<&[u8]>
+    ensures { option_map (λ p. p.now) result ≡ slice_get (slice_split (λ b. b == 124) line.now) k }
 {
-    let mut i = at;
-    while i < s.len() {
-        if s[i] == b {
-            return i;
-        }
-        i += 1;
-    }
-    i
+    line.split(|b| *b == b'|').nth(k)
 }
 
-// Where a field of a line starts, or the end.
-fn field_start(line: &[u8], k: u8) -> usize
-    ensures { (drop result line.now ≡ after k line.now) × (result ≤ length line.now) }
-{
-    let mut at = 0;
-    let mut left = k;
-    while left > 0 {
-        let end = find(line, at, b'|');
-        if end == line.len() {
-            return end;
-        }
-        at = end + 1;
-        left -= 1;
-    }
-    at
-}
-
-fn field<'a>(line: &'a [u8], k: u8) -> &'a [u8]
+fn field(line: &[u8], k: u8) -> &[u8]
     ensures { result.now ≡ field_of line.now k }
 {
-    let start = field_start(line, k);
-    let end = find(line, start, b'|');
-    &line[start..end]
+    match piece(line, k as usize) {
+        Some(f) => f,
+        None => b"",
+    }
 }
 
 fn digit(b: u8) -> u8
@@ -69,15 +41,12 @@ fn digit(b: u8) -> u8
 pub fn number(line: &[u8], k: u8) -> u64
     ensures { result ≡ number_of line.now k }
 {
-    let f = field(line, k);
     let mut n = 0;
-    let mut i = 0;
-    while i < f.len() {
+    for b in field(line, k) {
         if n > 99999999 {
             return n;
         }
-        n = n * 10 + digit(f[i]) as u64;
-        i += 1;
+        n = n * 10 + digit(*b) as u64;
     }
     n
 }
@@ -85,11 +54,7 @@ pub fn number(line: &[u8], k: u8) -> u64
 pub fn byte(line: &[u8], k: u8) -> u8
     ensures { result ≡ min 255 (number_of line.now k) }
 {
-    let n = number(line, k);
-    if n > 255 {
-        return 255;
-    }
-    n as u8
+    number(line, k).min(255) as u8
 }
 
 fn hex_digit(b: u8) -> u8
@@ -101,28 +66,18 @@ fn hex_digit(b: u8) -> u8
     }
 }
 
-fn decode(s: &[u8], at: usize) -> Decoded
-    requires { at < length s.now }
-    ensures { (bytes_of (drop at s.now) ≡ result.byte ∷ bytes_of (drop result.next s.now)) × (at < result.next) }
+// The first byte of a text, and what stands after it.
+fn decode(s: &[u8]) -> Option<(u8, &[u8])>
+    ensures { MatchOption result (s.now ≡ []) (λ d. (bytes_of s.now ≡ d.0 ∷ bytes_of d.1.now)) }
 {
-    let b = s[at];
-    if b != b'\\' {
-        return Decoded {
-            byte: b,
-            next: at + 1,
-        };
-    }
-    if s.len() - at < 3 {
-        return Decoded {
-            byte: b,
-            next: at + 1,
-        };
-    }
-    let high = hex_digit(s[at + 1]);
-    let low = hex_digit(s[at + 2]);
-    Decoded {
-        byte: 16 * high + low,
-        next: at + 3,
+    let (b, rest) = s.split_first()?;
+    match rest {
+        [c, d, rest @ ..] if *b == b'\\' => {
+            let high = hex_digit(*c);
+            let low = hex_digit(*d);
+            Some((16 * high + low, rest))
+        }
+        _ => Some((*b, rest)),
     }
 }
 
@@ -132,19 +87,17 @@ pub fn text(line: &[u8], k: u8, out: &mut [u8]) -> usize
         × (out.new ≡ sets out.old 0 (text_of line.now k)) }
     ensures prefix_len { IsPrefixLen result out.new }
 {
-    let f = field(line, k);
-    let mut i = 0;
-    let mut n = 0;
-    while i < f.len() {
-        if n == out.len() {
-            return n;
+    let mut rest = field(line, k);
+    for (n, place) in out.iter_mut().enumerate() {
+        match decode(rest) {
+            Some((b, after)) => {
+                *place = b;
+                rest = after;
+            }
+            None => return n,
         }
-        let d = decode(f, i);
-        out[n] = d.byte;
-        n += 1;
-        i = d.next;
     }
-    n
+    out.len()
 }
 
 // As many bytes of a buffer as a field says, or all.
@@ -152,11 +105,7 @@ pub fn room(line: &[u8], k: u8, buffer: &[u8]) -> usize
     ensures value { result ≡ min (length buffer.now) (number_of line.now k) }
     ensures prefix_len { IsPrefixLen result buffer.now }
 {
-    let n = number(line, k) as usize;
-    if n > buffer.len() {
-        return buffer.len();
-    }
-    n
+    buffer.len().min(number(line, k) as usize)
 }
 
 // ---- printing: what is written no contract can say, and nothing is answered
@@ -166,13 +115,40 @@ pub fn show_refusal(n: u8) {
     io::print_decimal(1, n as u64);
 }
 
-fn show_answer(answer: Written) {
+fn show_answer(answer: Result<usize, Refusal>) {
     match answer {
-        Written::Count(n) => {
+        Ok(n) => {
             io::write_all(1, b" ok ");
             io::print_decimal(1, n as u64);
         }
-        Written::Refused(r) => show_refusal(r.number()),
+        Err(r) => show_refusal(r.number()),
+    }
+}
+
+// The ends of what Show shows, or a refusal.
+pub fn show_part(shown: Result<Part, Refusal>) {
+    match shown {
+        Ok(Part { from, to }) => {
+            io::write_all(1, b" part ");
+            io::print_decimal(1, from as u64);
+            io::write_all(1, b" ");
+            io::print_decimal(1, to as u64);
+        }
+        Err(r) => show_refusal(r.number()),
+    }
+}
+
+// The answer to Flag, Number or String.
+pub fn show_value(answer: Result<Option<u32>, Refusal>) {
+    match answer {
+        Ok(Some(v)) => {
+            io::write_all(1, b" present ");
+            io::print_decimal(1, v as u64);
+        }
+        Ok(None) => {
+            io::write_all(1, b" absent");
+        }
+        Err(r) => show_refusal(r.number()),
     }
 }
 
@@ -182,15 +158,13 @@ fn show_byte(b: u8) {
 }
 
 pub fn show_bytes(buffer: &[u8]) {
-    let mut i = 0;
-    while i < buffer.len() {
-        show_byte(buffer[i]);
-        i += 1;
+    for b in buffer {
+        show_byte(*b);
     }
 }
 
 // A count or a refusal, and the buffer afterwards.
-pub fn show_written(answer: Written, buffer: &[u8]) {
+pub fn show_written(answer: Result<usize, Refusal>, buffer: &[u8]) {
     show_answer(answer);
     io::write_all(1, b":");
     show_bytes(buffer);

@@ -4,25 +4,21 @@ use mathlib.Core.List.{List, [], ◌∷◌, ◌++◌, append_assoc, append-nil}
 use Prim.Native.Nat.{ℕ, zero, suc, ◌+◌, ◌≤◌, ◌<◌}
 use native.Mathlib.Numerals.{add-one}
 use native.Mathlib.Omega.{arith}
-use lib.ListN.{length, take, get_or, set, length-append, drop_of_length-le}
+use lib.ListN.{length, take, get_or, set, length-append}
 use lib.Seq.{sets, length-take-le, take-suc}
 use mathlib.Core.Bool.{true}
 use lib.Dec.{eqb}
 use borrow.Author.Tests.{eqb-true}
 use Rattle.spec.specs.Choice.{both}
 use Rattle.laws.proofs.Tests.{both_true}
-use Rattle.spec.specs.Position.{compensation, compensations, repeated}
-use Rattle.spec.specs.declared.position.Parameter.TheVariants.{Column as OfColumn}
-use Rattle.spec.specs.declared.position.Column.{Column}
+use Rattle.spec.specs.Position.{compensations, repeated}
 use Rattle.places.specs.Places.{in_turn, parameters_of}
 use Rattle.places.specs.declared.Places.{Places}
 use Rattle.places.specs.declared.Turn.{Turn}
 use Rattle.places.specs.declared.Turn.TheVariants.{RowColumn, ColumnRow, ColumnLeft, RowLeft, RowFirst, ColumnFirst}
-use Rattle.position.proofs.FillSteps.{parts}
 use Rattle.position.proofs.StepLaws.{sets-append}
 use Rattle.compensations.specs.Appending.{BytesAppended}
-use Rattle.compensations.specs.declared.Appended.{Appended}
-use Rattle.compensations.specs.declared.Appended.TheVariants.{Until, NoRoom}
+use Rattle.std.specs.Prelude.{Option, Some, None}
 
 pub copied_more : (s out : List ℕ) (at i p : ℕ) → p ≡ at + i → i < length s → set (sets out at (take i s)) p (get_or s i 0) ≡ sets out at (take (i + 1) s)
 copied_more s out at i p e h =
@@ -34,18 +30,15 @@ copied_more s out at i p e h =
 -- ---- one piece, and then another
 
 module _ (k l : List ℕ) (capacity : ℕ) (out : List ℕ) (at : ℕ) where
-  pub then_appended : (next : ℕ) (m : List ℕ) (r : Appended) (o : List ℕ) → BytesAppended k capacity out at (Until next) m → BytesAppended l capacity m next r
+  pub then_appended : (next : ℕ) (m : List ℕ) (r : Option ℕ) (o : List ℕ) → BytesAppended k capacity out at (Some next) m → BytesAppended l capacity m next r
       o
       → BytesAppended (k ++ l) capacity out at r o
-  then_appended next m (Until end) o a b = (
+  then_appended next m (Some end) o a b = (
     rw length-append (omega (arith, a.0, b.0)),
     b.1,
     b.2 ∙ ap (λ (x : List ℕ). sets x next l) a.2 ∙ sets-append out at next k l a.0,
   )
-  then_appended next m NoRoom o a b = rw length-append (omega (arith, a.0, b))
-
-  pub then_full : capacity < at + length k → capacity < at + length (k ++ l)
-  then_full h = rw length-append (omega arith)
+  then_appended next m None o a b = rw length-append (omega (arith, a.0, b))
 
 -- ---- a piece several times over
 
@@ -63,7 +56,7 @@ repeated_longer (suc m) (suc n) l h = rw (length-append, length-append) (omega (
 -- What is written after i times, of so many.
 pub record Repeated (l : List ℕ) (capacity : ℕ) (out₀ : List ℕ) (at count : ℕ) (out : List ℕ) (end i : ℕ) : Type 0 where
   pub inside : i ≤ count
-  pub appended : BytesAppended (repeated i l) capacity out₀ at (Until end) out
+  pub appended : BytesAppended (repeated i l) capacity out₀ at (Some end) out
 
 module _ (l : List ℕ) (capacity : ℕ) (out₀ : List ℕ) (at count : ℕ) where
   pub repeated-none : at ≤ capacity → Repeated l capacity out₀ at count out₀ at 0
@@ -71,11 +64,11 @@ module _ (l : List ℕ) (capacity : ℕ) (out₀ : List ℕ) (at count : ℕ) wh
   repeated-none h = record { inside = omega arith; appended = (omega arith, h, refl) }
 
   module _ (out : List ℕ) (end i : ℕ) (r : Repeated l capacity out₀ at count out end i) where
-    pub repeated-again : (next : ℕ) (o : List ℕ) → i < count → BytesAppended l capacity out end (Until next) o → Repeated l capacity out₀ at count o next
+    pub repeated-again : (next : ℕ) (o : List ℕ) → i < count → BytesAppended l capacity out end (Some next) o → Repeated l capacity out₀ at count o next
         (i + 1)
     repeated-again next o h a = record {
       inside = omega arith;
-      appended = rw (add-one, repeated_more) (then_appended (repeated i l) l capacity out₀ at end out (Until next) o r.appended a);
+      appended = rw (add-one, repeated_more) (then_appended (repeated i l) l capacity out₀ at end out (Some next) o r.appended a);
     }
 
     pub repeated_full : i < count → capacity < end + length l → capacity < at + length (repeated count l)
@@ -83,18 +76,6 @@ module _ (l : List ℕ) (capacity : ℕ) (out₀ : List ℕ) (at count : ℕ) wh
         let longer : length (repeated (suc i) l) ≤ length (repeated count l) = repeated_longer (suc i) count l (omega arith) in
         let full : capacity < at + length (repeated (suc i) l) = rw (repeated_more, length-append) (omega (arith, r.appended.0)) in
         omega arith
-
-    pub repeated-all : count ≤ i → BytesAppended (repeated count l) capacity out₀ at (Until end) out
-    repeated-all h = let same : i ≡ count = omega (arith, r.inside) in rw same at r.appended
-
--- ---- the compensation for a column
-
-module _ (back up : List ℕ) (c : Column) where
-  pub empty_back : length back ≡ 0 → compensation back up (OfColumn c) ≡ 8 ∷ []
-  empty_back h = rw (drop_of_length-le back {i = 0} (omega arith))
-
-  pub given_back : (length back ≡ 0 → ⊥) → compensation back up (OfColumn c) ≡ back
-  given_back h = rw (parts back h)
 
 -- ---- no compensation is owed
 

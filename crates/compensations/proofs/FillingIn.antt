@@ -5,35 +5,30 @@ use Prim.Native.Nat.{ℕ, ◌+◌, ◌<◌}
 use native.Mathlib.Omega.{arith}
 use lib.ListN.{length, length-append}
 use lib.Seq.{sets}
-use Rattle.spec.specs.Position.{Filled, refused, compensations, body, fault, compensated}
-use Rattle.spec.specs.declared.Refusal.{Refusal}
+use Rattle.spec.specs.Position.{Filled, compensations, body, compensated}
 use Rattle.places.specs.Places.{parameters_of}
-use Rattle.places.specs.declared.Places.{Places}
 use Rattle.position.specs.Filling.{BodyFilled}
-use Rattle.position.specs.declared.BodyEnd.TheVariants.{At}
+use Rattle.position.specs.declared.BodyEnd.{BodyEnd}
 use Rattle.position.proofs.StepLaws.{sets-append}
 use Rattle.compensations.specs.Appending.{BytesAppended, BodyFilledIn}
-use Rattle.compensations.specs.declared.Appended.TheVariants.{Until}
-use Rattle.compensations.specs.declared.FilledIn.TheVariants.{Until as FilledUntil}
+use Rattle.std.specs.Prelude.{Option, Some, None, Ok}
 
-module _ (back up : List ℕ) (t : Filled) where
-  pub faulty : (r : Refusal) → t ≡ refused r → compensated back up t ≡ fault r
-  faulty r e = rw e
+module _ (back up : List ℕ) (t : Filled) (out m : List ℕ) (b : BodyEnd) (f : BodyFilled t out (Ok b) m) (capacity : ℕ) where
+  all : compensated back up t ≡ body (f.0 ++ compensations back up (parameters_of b.places))
+  all = rw f.1
 
-  module _ (out m : List ℕ) (n : ℕ) (ps : Places) (f : BodyFilled t out (At n ps) m) (capacity : ℕ) where
-    all : compensated back up t ≡ body (f.0 ++ compensations back up (parameters_of ps))
-    all = rw f.1
+  pub no_room : capacity < b.end + length (compensations back up (parameters_of b.places))
+      → (l : List ℕ) × (compensated back up t ≡ body l) × (capacity < length l)
+  no_room h = (f.0 ++ compensations back up (parameters_of b.places), all, rw length-append (omega (arith, f.2)))
 
-    pub no_room : capacity < n + length (compensations back up (parameters_of ps)) → (l : List ℕ) × (compensated back up t ≡ body l) × (capacity < length l)
-    no_room h = (f.0 ++ compensations back up (parameters_of ps), all, rw length-append (omega (arith, f.2)))
-
-    pub has_room : (end : ℕ) (o : List ℕ) → BytesAppended (compensations back up (parameters_of ps)) capacity m n (Until end) o → BodyFilledIn
-        (compensated back up t) capacity out (FilledUntil end) o
-    has_room end o a = (
-      f.0 ++ compensations back up (parameters_of ps),
-      all,
-      rw length-append (omega (arith, a.0, f.2)),
-      a.1,
-      a.2 ∙ ap (λ (x : List ℕ). sets x n (compensations back up (parameters_of ps))) f.3 ∙ sets-append out 0 n f.0
-          (compensations back up (parameters_of ps)) (omega (arith, f.2)),
-    )
+  pub then_compensated : (r : Option ℕ) (o : List ℕ) → BytesAppended (compensations back up (parameters_of b.places)) capacity m b.end r o
+      → BodyFilledIn (compensated back up t) capacity out (Ok r) o
+  then_compensated (Some end) o a = (
+    f.0 ++ compensations back up (parameters_of b.places),
+    all,
+    rw length-append (omega (arith, a.0, f.2)),
+    a.1,
+    a.2 ∙ ap (λ (x : List ℕ). sets x b.end (compensations back up (parameters_of b.places))) f.3 ∙ sets-append out 0 b.end f.0
+        (compensations back up (parameters_of b.places)) (omega (arith, f.2)),
+  )
+  then_compensated None o a = no_room a

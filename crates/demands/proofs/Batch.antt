@@ -1,5 +1,6 @@
 -- Each answer of a batch is that of the same question put alone.
 -- Assumes nothing.
+use Rattle.std.specs.Prelude.{Option, Some, None, Result, Ok, Err}
 use Prim.Native.Nat.{ℕ, ◌/◌, ◌%◌}
 use mathlib.Core.Path.{◌≡◌, refl, sym, ap, ◌∙◌}
 use mathlib.Core.Bool.{Bool, true, false}
@@ -15,17 +16,12 @@ use Rattle.spec.specs.Chain.{Terminal, resolve}
 use Rattle.spec.specs.Answers.{Outcome, keeping, put}
 use Rattle.spec.specs.Questions.{terminal_of, terminal_for, answer_for}
 use Rattle.spec.specs.Batch.{kind_answer, batch_answer, answer_bytes, batch_answers, batch_outcome}
-use Rattle.spec.specs.declared.Numbered.{Numbered}
-use Rattle.spec.specs.declared.Numbered.TheVariants.{Is, Nothing}
 use Rattle.spec.specs.declared.Refusal.{Refusal}
 use Rattle.spec.specs.declared.Refusal.TheVariants.{BadName, BadId, DatabaseTooLarge, NoRoom, PartialQuestion, BadEnds}
-use Rattle.spec.specs.declared.Answer.{Answer}
-use Rattle.spec.specs.declared.Answer.TheVariants.{Present, Absent, Refused}
-use Rattle.spec.specs.declared.Written.{Written}
-use Rattle.spec.specs.declared.Written.TheVariants.{Count, Refused as NotWritten}
 use Rattle.demands.specs.Demand3.{QuestionHasRoom, cut}
 use Rattle.demands.proofs.Demand3.{question-answer}
 use Rattle.demands.specs.Batch.{questions, of_kind, alone, AnsweredAlone, BatchAnswers}
+use Rattle.spec.specs.declared.Kind.{Kind}
 
 -- ---- one question
 
@@ -38,18 +34,18 @@ module _ (db : Files) (name : List ℕ) (ends : good_ends db ≡ true) (good : g
   unfolding terminal_for terminal_of good_id
   asked a b = rw (ends, good, small)
 
-  by_kind : (a b : ℕ) (n : Numbered) (lent : List ℕ) → QuestionHasRoom (of_kind n db name (a ∷ b ∷ []) lent)
-      → pick (id_bytes a b) (kind_answer n (a ∷ b ∷ []) walked) (Refused BadId) ≡ of_kind n db name (a ∷ b ∷ []) lent
+  by_kind : (a b : ℕ) (n : Option Kind) (lent : List ℕ) → QuestionHasRoom (of_kind n db name (a ∷ b ∷ []) lent)
+      → pick (id_bytes a b) (kind_answer n (a ∷ b ∷ []) walked) (Err BadId) ≡ of_kind n db name (a ∷ b ∷ []) lent
   unfolding answer_for
-  by_kind a b (Is k) lent room = go (id_bytes a b) refl ∙ sym (question-answer k db name (a ∷ b ∷ []) lent room)
+  by_kind a b (Some k) lent room = go (id_bytes a b) refl ∙ sym (question-answer k db name (a ∷ b ∷ []) lent room)
     where
       go : (t : Bool) → id_bytes a b ≡ t
-          → pick t (answer_for (a ∷ b ∷ []) k walked) (Refused BadId) ≡ answer_for (a ∷ b ∷ []) k (terminal_for db name (a ∷ b ∷ []))
+          → pick t (answer_for (a ∷ b ∷ []) k walked) (Err BadId) ≡ answer_for (a ∷ b ∷ []) k (terminal_for db name (a ∷ b ∷ []))
       go true e = rw (asked a b, e)
       go false e = rw (asked a b, e)
-  by_kind a b Nothing lent room = go (id_bytes a b)
+  by_kind a b None lent room = go (id_bytes a b)
     where
-      go : (t : Bool) → pick t (Refused BadId) (Refused BadId) ≡ Refused BadId
+      go : (t : Bool) → ◌≡◌ {A = Result (Option ℕ) Refusal} (pick t (Err BadId) (Err BadId)) (Err BadId)
       go true = refl
       go false = refl
 
@@ -58,31 +54,31 @@ module _ (db : Files) (name : List ℕ) (ends : good_ends db ≡ true) (good : g
   unfolding alone batch_answer
   one_answer a b k z lent = go (eqb z 0)
     where
-      both_right : (x : Bool) (r s : Answer) → pick (both x true) r s ≡ pick x r s
+      both_right : (x : Bool) (r s : Result (Option ℕ) Refusal) → pick (both x true) r s ≡ pick x r s
       both_right true r s = refl
       both_right false r s = refl
 
-      both_wrong : (x : Bool) (r s : Answer) → pick (both x false) r s ≡ s
+      both_wrong : (x : Bool) (r s : Result (Option ℕ) Refusal) → pick (both x false) r s ≡ s
       both_wrong true r s = refl
       both_wrong false r s = refl
 
-      go : (t : Bool) → QuestionHasRoom (pick t (of_kind (kind_of k) db name (a ∷ b ∷ []) lent) (Refused BadId))
-          → pick (both (id_bytes a b) t) (kind_answer (kind_of k) (a ∷ b ∷ []) walked) (Refused BadId)
-          ≡ pick t (of_kind (kind_of k) db name (a ∷ b ∷ []) lent) (Refused BadId)
+      go : (t : Bool) → QuestionHasRoom (pick t (of_kind (kind_of k) db name (a ∷ b ∷ []) lent) (Err BadId))
+          → pick (both (id_bytes a b) t) (kind_answer (kind_of k) (a ∷ b ∷ []) walked) (Err BadId)
+          ≡ pick t (of_kind (kind_of k) db name (a ∷ b ∷ []) lent) (Err BadId)
       go true room = both_right (id_bytes a b) _ _ ∙ by_kind a b (kind_of k) lent room
       go false room = both_wrong (id_bytes a b) _ _
 
   -- ---- all questions
 
-  first_eight : (x : Answer) (l : List ℕ) → (take 8 (answer_bytes x ++ l) ≡ answer_bytes x) × (drop 8 (answer_bytes x ++ l) ≡ l)
-  first_eight (Present v) l = (refl, refl)
-  first_eight Absent l = (refl, refl)
-  first_eight (Refused r) l = (refl, refl)
+  first_eight : (x : Result (Option ℕ) Refusal) (l : List ℕ) → (take 8 (answer_bytes x ++ l) ≡ answer_bytes x) × (drop 8 (answer_bytes x ++ l) ≡ l)
+  first_eight (Ok (Some v)) l = (refl, refl)
+  first_eight (Ok None) l = (refl, refl)
+  first_eight (Err r) l = (refl, refl)
 
-  append_twice : (x : Answer) (l m : List ℕ) → answer_bytes x ++ l ++ m ≡ answer_bytes x ++ (l ++ m)
-  append_twice (Present v) l m = refl
-  append_twice Absent l m = refl
-  append_twice (Refused r) l m = refl
+  append_twice : (x : Result (Option ℕ) Refusal) (l m : List ℕ) → answer_bytes x ++ l ++ m ≡ answer_bytes x ++ (l ++ m)
+  append_twice (Ok (Some v)) l m = refl
+  append_twice (Ok None) l m = refl
+  append_twice (Err r) l m = refl
 
   all-answers : (qs rest : List ℕ) → AnsweredAlone db name (questions qs) (cut 8 (length (questions qs)) (batch_answers walked qs ++ rest))
   unfolding questions batch_answers cut
@@ -106,20 +102,20 @@ count-questions (a ∷ b ∷ []) = omega arith
 count-questions (a ∷ b ∷ k ∷ []) = omega arith
 count-questions (a ∷ b ∷ k ∷ z ∷ qs) = let ih = count-questions qs in omega (arith, ih)
 
-not_counted : {A : Type 0} (r : Refusal) (n : ℕ) → NotWritten r ≡ Count n → A
+not_counted : {A : Type 0} (r : Refusal) (n : ℕ) → Err r ≡ Ok n → A
 not_counted r n e = let z : ◌≡◌ {A = ℕ} 0 1 = cc in absurd (omega arith)
 
-counted : (l buffer : List ℕ) (m n : ℕ) → (put l m buffer).answer ≡ Count n → (m ≡ n) × ((put l m buffer).buffer ≡ l ++ drop (length l) buffer)
+counted : (l buffer : List ℕ) (m n : ℕ) → (put l m buffer).answer ≡ Ok n → (m ≡ n) × ((put l m buffer).buffer ≡ l ++ drop (length l) buffer)
 unfolding put
 counted l buffer m n = go (leb (length l) (length buffer))
   where
-    full : Outcome Written
-    full = record { answer = Count m; buffer = l ++ drop (length l) buffer }
+    full : Outcome (Result ℕ Refusal)
+    full = record { answer = Ok m; buffer = l ++ drop (length l) buffer }
 
-    kept : Outcome Written
-    kept = keeping (NotWritten NoRoom) buffer
+    kept : Outcome (Result ℕ Refusal)
+    kept = keeping (Err NoRoom) buffer
 
-    go : (t : Bool) → (pick t full kept).answer ≡ Count n → (m ≡ n) × ((pick t full kept).buffer ≡ l ++ drop (length l) buffer)
+    go : (t : Bool) → (pick t full kept).answer ≡ Ok n → (m ≡ n) × ((pick t full kept).buffer ≡ l ++ drop (length l) buffer)
     go true e = (cc, refl)
     go false e = not_counted NoRoom n e
 
@@ -130,14 +126,14 @@ batch-answers db name asked buffer n = by-ends (good_ends db) refl
     l : List ℕ
     l = batch_answers (resolve (contents db) name) asked
 
-    refusing : Refusal → Outcome Written
-    refusing r = keeping (NotWritten r) buffer
+    refusing : Refusal → Outcome (Result ℕ Refusal)
+    refusing r = keeping (Err r) buffer
 
-    answered : Outcome Written
+    answered : Outcome (Result ℕ Refusal)
     answered = pick (eqb (length asked % 4) 0) (put l (length asked / 4) buffer) (refusing PartialQuestion)
 
-    Goal : Outcome Written → Type 0
-    Goal o = o.answer ≡ Count n → (n ≡ length (questions asked)) × AnsweredAlone db name (questions asked) (cut 8 n o.buffer)
+    Goal : Outcome (Result ℕ Refusal) → Type 0
+    Goal o = o.answer ≡ Ok n → (n ≡ length (questions asked)) × AnsweredAlone db name (questions asked) (cut 8 n o.buffer)
 
     by_length : good_ends db ≡ true → good_name name ≡ true → too_large db.bytes ≡ false → (t : Bool)
         → Goal (pick t (put l (length asked / 4) buffer) (refusing PartialQuestion))
@@ -151,7 +147,7 @@ batch-answers db name asked buffer n = by-ends (good_ends db) refl
     by_size ends good true e h = not_counted DatabaseTooLarge n h
     by_size ends good false e h = by_length ends good e (eqb (length asked % 4) 0) h
 
-    named : Outcome Written
+    named : Outcome (Result ℕ Refusal)
     named = pick (good_name name) (pick (too_large db.bytes) (refusing DatabaseTooLarge) answered) (refusing BadName)
 
     by_name : good_ends db ≡ true → (t : Bool) → good_name name ≡ t

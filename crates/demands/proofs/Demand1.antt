@@ -1,4 +1,5 @@
 -- Demand 1 holds of the operations with output. Assumes nothing.
+use Rattle.std.specs.Prelude.{None, Result, Ok, Err}
 use Prim.Native.Nat.{ℕ, ◌*◌, ◌/◌, ◌%◌, ◌≤◌}
 use mathlib.Core.Path.{◌≡◌, refl, ◌∙◌}
 use mathlib.Core.Bool.{Bool, true, false}
@@ -44,6 +45,7 @@ use Rattle.laws.proofs.BatchAnswers.{answers-size}
 use Rattle.laws.proofs.RecordRoom.{mended-sixteen}
 use Rattle.laws.proofs.Winning.{winning-wins}
 use Rattle.laws.proofs.Records.{records-length}
+use Rattle.spec.specs.declared.Amounts.{Amounts}
 use Rattle.spec.specs.declared.Refusal.{Refusal}
 use Rattle.spec.specs.declared.Refusal.TheVariants.{
   BadName,
@@ -57,14 +59,11 @@ use Rattle.spec.specs.declared.Refusal.TheVariants.{
   InvalidState,
 }
 use Rattle.spec.specs.declared.finder.Finder.{Finder}
-use Rattle.spec.specs.declared.Answer.TheVariants.{Absent, Refused as NotAnswered}
-use Rattle.spec.specs.declared.Written.{Written}
-use Rattle.spec.specs.declared.Written.TheVariants.{Count, Refused}
 use Rattle.demands.specs.Demand1.{OnlyFirst, Writes, Answers, Fills, Repairs, Demand1}
 
 -- ---- a buffer that is kept
 
-kept : (size : ℕ) (r : Refusal) (buffer : List ℕ) → Writes size buffer (keeping (Refused r) buffer)
+kept : (size : ℕ) (r : Refusal) (buffer : List ℕ) → Writes size buffer (keeping (Err r) buffer)
 kept size r buffer = record { refused = λ s e. refl; accepted = λ n e. let z : ◌≡◌ {A = ℕ} 0 1 = cc in absurd (omega arith) }
 
 -- ---- bytes that are put at a buffer's start, and reported as n things
@@ -80,10 +79,10 @@ written : (size : ℕ) (bytes : List ℕ) (n : ℕ) (buffer : List ℕ) → leng
 unfolding put
 written size bytes n buffer whole = go (leb (length bytes) (length buffer)) refl
   where
-    full : Outcome Written
-    full = record { answer = Count n; buffer = bytes ++ drop (length bytes) buffer }
+    full : Outcome (Result ℕ Refusal)
+    full = record { answer = Ok n; buffer = bytes ++ drop (length bytes) buffer }
 
-    go : (t : Bool) → leb (length bytes) (length buffer) ≡ t → Writes size buffer (pick t full (keeping (Refused NoRoom) buffer))
+    go : (t : Bool) → leb (length bytes) (length buffer) ≡ t → Writes size buffer (pick t full (keeping (Err NoRoom) buffer))
     go true e = record {
       refused = λ r f. let z : ◌≡◌ {A = ℕ} 0 1 = cc in absurd (omega arith);
       accepted = λ m f. let same : n ≡ m = cc in rw (← same, ← whole) (front bytes buffer (leb-true (length bytes) (length buffer) e));
@@ -98,21 +97,21 @@ delivered_writes (stops r) buffer = kept 1 r buffer
 filled_fills : (p : Prepared) (buffer : List ℕ) → Fills buffer (filled_into p buffer)
 filled_fills (finished f) buffer = go o.answer refl
   where
-    o : Outcome Written
+    o : Outcome (Result ℕ Refusal)
     o = put f.bytes (length f.bytes) buffer
 
     w : Writes 1 buffer o
     w = written 1 f.bytes (length f.bytes) buffer (omega arith)
 
-    go : (a : Written) → o.answer ≡ a → Fills buffer (record { answer = filled_answer f.delay f.star a; buffer = o.buffer })
-    go (Count n) e = record {
+    go : (a : Result ℕ Refusal) → o.answer ≡ a → Fills buffer (record { answer = filled_answer f.delay f.star a; buffer = o.buffer })
+    go (Ok n) e = record {
       refused = λ r k. let z : ◌≡◌ {A = ℕ} 0 1 = cc in absurd (omega arith);
       accepted = λ g k.
           let same : record { delay = f.delay; star = f.star; count = n } ≡ g = cc in
           let one : 1 * n ≡ n = omega arith in
           rw (← same, ← one) (w.accepted n e);
     }
-    go (Refused s) e = record {
+    go (Err s) e = record {
       refused = λ r k. w.refused s e;
       accepted = λ g k. let z : ◌≡◌ {A = ℕ} 0 1 = cc in absurd (omega arith);
     }
@@ -123,30 +122,30 @@ filled_fills (notPrepared r) buffer = record {
 
 -- ---- String
 
-presented-answers : (buffer : List ℕ) (o : Outcome Written) → Writes 1 buffer o → Answers buffer
+presented-answers : (buffer : List ℕ) (o : Outcome (Result ℕ Refusal)) → Writes 1 buffer o → Answers buffer
     (record { answer = presented o.answer; buffer = o.buffer })
 presented-answers buffer o w = go o.answer refl
   where
-    go : (a : Written) → o.answer ≡ a → Answers buffer (record { answer = presented a; buffer = o.buffer })
-    go (Count n) e = record {
+    go : (a : Result ℕ Refusal) → o.answer ≡ a → Answers buffer (record { answer = presented a; buffer = o.buffer })
+    go (Ok n) e = record {
       refused = λ r f. let z : ◌≡◌ {A = ℕ} 0 1 = cc in absurd (omega arith);
       absent = λ f. let z : ◌≡◌ {A = ℕ} 0 1 = cc in absurd (omega arith);
       present = λ m f. let same : n ≡ m = cc in let one : 1 * n ≡ m = omega (arith, same) in rw (← one) (w.accepted n e);
     }
-    go (Refused s) e = record {
+    go (Err s) e = record {
       refused = λ r f. w.refused s e;
       absent = λ f. let z : ◌≡◌ {A = ℕ} 0 1 = cc in absurd (omega arith);
       present = λ m f. let z : ◌≡◌ {A = ℕ} 0 1 = cc in absurd (omega arith);
     }
 
-kept-answer : (r : Refusal) (buffer : List ℕ) → Answers buffer (keeping (NotAnswered r) buffer)
+kept-answer : (r : Refusal) (buffer : List ℕ) → Answers buffer (keeping (Err r) buffer)
 kept-answer r buffer = record {
   refused = λ s e. refl;
   absent = λ e. refl;
   present = λ n e. let z : ◌≡◌ {A = ℕ} 0 1 = cc in absurd (omega arith);
 }
 
-kept-absent : (buffer : List ℕ) → Answers buffer (keeping Absent buffer)
+kept-absent : (buffer : List ℕ) → Answers buffer (keeping (Ok None) buffer)
 kept-absent buffer = record {
   refused = λ s e. refl;
   absent = λ e. refl;
@@ -210,7 +209,7 @@ finder_writes f text buffer =
 not_repaired_lem : (r : Refusal) (text records : List ℕ) → Repairs text records (not_repaired r text records)
 not_repaired_lem r text records = record {
   refused = λ s e. (refl, refl);
-  accepted = λ bytes n e. let z : ◌≡◌ {A = ℕ} 0 1 = cc in absurd (omega arith);
+  accepted = λ a e. let z : ◌≡◌ {A = ℕ} 0 1 = cc in absurd (omega arith);
 }
 
 mended_repairs : (db text records : List ℕ) → Repairs text records (put_mended (mended db) text records)
@@ -223,11 +222,11 @@ mended_repairs db text records =
     let h = both_true (leb (length m.text) (length text)) (leb (length flat) (length records)) t in
     record {
       refused = λ r e. let z : ◌≡◌ {A = ℕ} 0 1 = cc in absurd (omega arith);
-      accepted = λ bytes n e.
-          let b : length m.text ≡ bytes = cc in
-          let c : length m.records ≡ n = cc in
-          let size : length flat ≡ 16 * n = omega (arith, mended-sixteen db, c) in (
-            rw (← b) (front m.text text (leb-true (length m.text) (length text) h.0)),
+      accepted = λ a e.
+          let all : ◌≡◌ {A = Amounts} (record { bytes = length m.text; records = length m.records }) a = cc in
+          let size : length flat ≡ 16 * length m.records = omega (arith, mended-sixteen db) in
+          rw (← all) (
+            front m.text text (leb-true (length m.text) (length text) h.0),
             rw (← size) (front flat records (leb-true (length flat) (length records) h.1)),
           );
     })

@@ -1,5 +1,6 @@
 -- Demand 3 holds of every accepted chain.
 -- Assumes nothing.
+use Rattle.std.specs.Prelude.{Option, Some, None, Result, Ok, Err}
 use Prim.Native.Nat.{ℕ, ◌+◌, ◌*◌, ◌/◌, ◌%◌, ◌≤◌, ◌<◌}
 use mathlib.Core.Path.{◌≡◌, refl, ◌∙◌, ap, sym}
 use mathlib.Core.Logic.{◌↔◌}
@@ -45,10 +46,6 @@ use Rattle.spec.specs.Answers.{Outcome, put}
 use Rattle.laws.proofs.Removal.{Clear, AllWin, matches-hides, win_no_cancel, lookup-hit, lookup_on}
 use Rattle.laws.proofs.Winning.{winning-wins, winning-sound, lookup-winning}
 use Rattle.spec.specs.declared.Refusal.TheVariants.{BadId, NoRoom}
-use Rattle.spec.specs.declared.Answer.{Answer}
-use Rattle.spec.specs.declared.Answer.TheVariants.{Present, Absent, Refused as NotAnswered}
-use Rattle.spec.specs.declared.Written.{Written}
-use Rattle.spec.specs.declared.Written.TheVariants.{Count, Refused}
 use Rattle.demands.specs.Demand3.{
   Accepted,
   HasRoom,
@@ -69,19 +66,20 @@ use Rattle.demands.specs.Demand3.{
 use Rattle.spec.specs.Listing.{four_bytes, record_of, records, list_for, list_outcome, flat_text, flat_for, flat_outcome}
 use Rattle.laws.proofs.FlatAlone.{opened-ends, sound, asked_is, flag_same, number_same, string-same, list_same, flat-same}
 use Rattle.laws.proofs.Records.{AllSmall, record_length, records-length, values-small, placed-length}
+use Rattle.spec.specs.declared.Refusal.{Refusal}
 
 -- ---- a call with room
 
 pub put-room : (bytes : List ℕ) (n : ℕ) (buffer : List ℕ) → HasRoom (put bytes n buffer).answer → put bytes n buffer ≡ record
-    { answer = Count n; buffer = bytes ++ drop (length bytes) buffer }
+    { answer = Ok n; buffer = bytes ++ drop (length bytes) buffer }
 unfolding put
 put-room bytes n buffer = go (leb (length bytes) (length buffer))
   where
-    full : Outcome Written
-    full = record { answer = Count n; buffer = bytes ++ drop (length bytes) buffer }
+    full : Outcome (Result ℕ Refusal)
+    full = record { answer = Ok n; buffer = bytes ++ drop (length bytes) buffer }
 
-    kept : Outcome Written
-    kept = record { answer = Refused NoRoom; buffer = buffer }
+    kept : Outcome (Result ℕ Refusal)
+    kept = record { answer = Err NoRoom; buffer = buffer }
 
     go : (x : Bool) → HasRoom (pick x full kept).answer → pick x full kept ≡ full
     go true h = refl
@@ -96,11 +94,11 @@ pub put_like : (a b : List ℕ) (n : ℕ) (buffer : List ℕ) → length a ≡ l
 unfolding put
 put_like a b n buffer e = rw e (go (leb (length b) (length buffer)))
   where
-    full : List ℕ → Outcome Written
-    full l = record { answer = Count n; buffer = l ++ drop (length b) buffer }
+    full : List ℕ → Outcome (Result ℕ Refusal)
+    full l = record { answer = Ok n; buffer = l ++ drop (length b) buffer }
 
-    kept : Outcome Written
-    kept = record { answer = Refused NoRoom; buffer = buffer }
+    kept : Outcome (Result ℕ Refusal)
+    kept = record { answer = Err NoRoom; buffer = buffer }
 
     go : (x : Bool) → (pick x (full a) kept).answer ≡ (pick x (full b) kept).answer
     go true = refl
@@ -167,18 +165,18 @@ ground_records (f ∷ fs) h = rw (ground_record f.place f.file (reading f.text) 
 
 -- ---- how often a pair with a value is in a listing
 
-abbrev times : ℕ → Answer → ℕ
-times v (Present u) = pick (eqb u v) 1 0
-times v Absent = 0
-times v (NotAnswered r) = 0
+abbrev times : ℕ → Result (Option ℕ) Refusal → ℕ
+times v (Ok (Some u)) = pick (eqb u v) 1 0
+times v (Ok None) = 0
+times v (Err r) = 0
 
-times_one : (v : ℕ) (h : Hit) → (times v (hit_answer h) ≡ 1) ↔ (hit_answer h ≡ Present v)
+times_one : (v : ℕ) (h : Hit) → (times v (hit_answer h) ≡ 1) ↔ (hit_answer h ≡ (Ok (Some v)))
 unfolding hit_answer
 times_one v none = ((λ e. let z : ◌≡◌ {A = ℕ} 0 1 = cc in absurd (omega arith)), (λ e. let z : ◌≡◌ {A = ℕ} 0 1 = cc in absurd (omega arith)))
 times_one v (hit t) = (go (eqb (value_of (reading t)) v) refl, λ e. let q : value_of (reading t) ≡ v = cc in rw (eq-eqb (value_of (reading t)) v q))
   where
-    go : (x : Bool) → eqb (value_of (reading t)) v ≡ x → pick {A = ℕ} x 1 0 ≡ 1 → Present (value_of (reading t)) ≡ Present v
-    go true h e = ap Present (eqb-true (value_of (reading t)) v h)
+    go : (x : Bool) → eqb (value_of (reading t)) v ≡ x → pick {A = ℕ} x 1 0 ≡ 1 → ◌≡◌ {A = Result (Option ℕ) Refusal} (Ok (Some (value_of (reading t)))) (Ok (Some v))
+    go true h e = rw (eqb-true (value_of (reading t)) v h)
     go false h e = absurd (omega arith)
 
 -- ---- a pair is there at most once
@@ -291,8 +289,8 @@ string-answer id (terminal names fs) lent h = go (lookup id 3 fs) refl h
     go : (x : Hit) → lookup id 3 fs ≡ x → QuestionHasRoom (decoded_outcome x lent).answer → (decoded_outcome x lent).answer ≡ hit_answer x
     go none e h = refl
     go (hit t) e h =
-        ap (λ (o : Outcome Written). presented o.answer) (put-room (bytes_of (reading t)) (length (bytes_of (reading t))) lent (λ f. h (ap presented f)))
-        ∙ ap Present (string-length id (reading t) (lookup-matches id 3 fs t e))
+        ap (λ (o : Outcome (Result ℕ Refusal)). presented o.answer) (put-room (bytes_of (reading t)) (length (bytes_of (reading t))) lent (λ f. h (ap presented f)))
+        ∙ rw (string-length id (reading t) (lookup-matches id 3 fs t e))
 
 pub question-answer : (k : Kind) (db : Files) (name id lent : List ℕ) → QuestionHasRoom (question k db name id lent)
     → question k db name id lent ≡ answer_for id k (terminal_for db name id)
@@ -319,7 +317,7 @@ module _ (db : Files) (name names : List ℕ) (fs : List Field) (accepted : Acce
   flat_is buffer = rw accepted
 
   list-room : (buffer : List ℕ) → HasRoom (list_outcome db name buffer).answer → list_outcome db name buffer ≡ record
-      { answer = Count (length (winning fs)); buffer = records (winning fs) ++ drop (length (records (winning fs))) buffer }
+      { answer = Ok (length (winning fs)); buffer = records (winning fs) ++ drop (length (records (winning fs))) buffer }
   list-room buffer h = list_is buffer ∙ put-room (records (winning fs)) (length (winning fs)) buffer (rw (list_is buffer) at h)
 
   pub line_is : (buffer : List ℕ) → HasRoom (flat_outcome db name buffer).answer → one_line (flat_outcome db name buffer) ≡ flat_text names fs
@@ -333,14 +331,14 @@ module _ (db : Files) (name names : List ℕ) (fs : List Field) (accepted : Acce
   positive Number = lit< tt
   positive String = lit< tt
 
-  asked-answer : (k : Kind) (id : List ℕ) (v : ℕ) → (answer_for id k (terminal_for db name id) ≡ Present v) ↔
-      (hit_answer (lookup id (kind_number k) fs) ≡ Present v)
+  asked-answer : (k : Kind) (id : List ℕ) (v : ℕ) → (answer_for id k (terminal_for db name id) ≡ (Ok (Some v))) ↔
+      (hit_answer (lookup id (kind_number k) fs) ≡ (Ok (Some v)))
   unfolding answer_for hit_answer
   asked-answer k id v = rw (asked_is db name names fs accepted db id (opened-ends db name names fs accepted), accepted)
       (go (good_id id) refl (lookup id (kind_number k) fs) refl)
     where
       go : (x : Bool) → good_id id ≡ x → (y : Hit) → lookup id (kind_number k) fs ≡ y →
-          (answer_for id k (pick x (terminal names fs) (refused BadId)) ≡ Present v) ↔ (hit_answer y ≡ Present v)
+          (answer_for id k (pick x (terminal names fs) (refused BadId)) ≡ (Ok (Some v))) ↔ (hit_answer y ≡ (Ok (Some v)))
       go true e y h = rw (← h) ((λ q. q), (λ q. q))
       go false e none h = ((λ q. let z : ◌≡◌ {A = ℕ} 0 1 = cc in absurd (omega arith)), (λ q. let z : ◌≡◌ {A = ℕ} 0 1 = cc in absurd (omega arith)))
       go false e (hit t) h = clash (sym (matches-good id (kind_number k) t (lookup-matches id (kind_number k) fs t h)) ∙ e)

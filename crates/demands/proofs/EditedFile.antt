@@ -1,6 +1,7 @@
 -- An edited file: a line's own bytes are replaced by another line with the same names. Whatever name is searched for, its line is found where
 -- it was, moved if it stands behind the edited line.
 -- Assumes nothing.
+use Rattle.std.specs.Prelude.{Option, Some, None}
 use Prim.Native.Nat.{ℕ, ◌+◌, ◌≤◌, ◌<◌}
 use mathlib.Core.Path.{◌≡◌, refl, ◌∙◌, ap, sym}
 use mathlib.Core.Bool.{Bool, true, false, not}
@@ -13,25 +14,23 @@ use Rattle.spec.specs.Choice.{pick, both}
 use Rattle.spec.specs.Lists.{holds}
 use Rattle.spec.specs.Lines.{join, text_at, Line, line_text, later_lines, lines_from, blank, comment, is_ignored, has_name, find, find_line, line_at}
 use Rattle.spec.specs.Repair.{own_bytes}
-use Rattle.spec.specs.declared.Found.{Found}
-use Rattle.spec.specs.declared.Found.TheVariants.{At, Nothing}
 use Rattle.laws.proofs.Tests.{clash}
 use Rattle.laws.proofs.WholeLines.{part_line}
 use Rattle.laws.proofs.Chunks.{Chunk, Open, Closed, cut_line, own_open, own_closed}
 use Rattle.laws.proofs.EditedLines.{Below, Cut, Shifted, lines_shifted}
 
 -- A line up to the place a stays; one that starts d bytes behind `to` starts d bytes behind c.
-abbrev pub Moved : ℕ → ℕ → ℕ → Found → Found → Type 0
-Moved a to c (At p) (At q) = ((p ≤ a) × (q ≡ p)) ⊎ ((d : ℕ) × (p ≡ to + d) × (q ≡ c + d))
-Moved a to c (At p) Nothing = ⊥
-Moved a to c Nothing (At q) = ⊥
-Moved a to c Nothing Nothing = Unit {0}
+abbrev pub Moved : ℕ → ℕ → ℕ → Option ℕ → Option ℕ → Type 0
+Moved a to c (Some p) (Some q) = ((p ≤ a) × (q ≡ p)) ⊎ ((d : ℕ) × (p ≡ to + d) × (q ≡ c + d))
+Moved a to c (Some p) None = ⊥
+Moved a to c None (Some q) = ⊥
+Moved a to c None None = Unit {0}
 
-shifted_moved : (a to c : ℕ) (x y : Found) → Shifted to c x y → Moved a to c x y
-shifted_moved a to c (At p) (At q) h = inr h
-shifted_moved a to c (At p) Nothing h = h
-shifted_moved a to c Nothing (At q) h = h
-shifted_moved a to c Nothing Nothing h = tt
+shifted_moved : (a to c : ℕ) (x y : Option ℕ) → Shifted to c x y → Moved a to c x y
+shifted_moved a to c (Some p) (Some q) h = inr h
+shifted_moved a to c (Some p) None h = h
+shifted_moved a to c None (Some q) h = h
+shifted_moved a to c None None h = tt
 
 module _ (n : List ℕ) (a to c : ℕ) where
   moved_before : (bs ls ms : List Line) → Below a bs → Moved a to c (find n ls) (find n ms) → Moved a to c (find n (bs ++ ls)) (find n (bs ++ ms))
@@ -40,7 +39,7 @@ module _ (n : List ℕ) (a to c : ℕ) where
   moved_before (l ∷ bs) ls ms b h = go (both (not (is_ignored l.text)) (has_name n l.text)) (moved_before bs ls ms b.1 h)
     where
       go : (x : Bool) → Moved a to c (find n (bs ++ ls)) (find n (bs ++ ms))
-          → Moved a to c (pick x (At l.start) (find n (bs ++ ls))) (pick x (At l.start) (find n (bs ++ ms)))
+          → Moved a to c (pick x (Some l.start) (find n (bs ++ ls))) (pick x (Some l.start) (find n (bs ++ ms)))
       go true k = inl (omega (arith, b.0), refl)
       go false k = k
 
@@ -49,12 +48,12 @@ module _ (n : List ℕ) (a to c : ℕ) where
   unfolding find
   moved_here s t ls ms i h k = rw (i, h) (go (both (not (is_ignored s)) (has_name n s)))
     where
-      go : (x : Bool) → Moved a to c (pick x (At a) (find n ls)) (pick x (At a) (find n ms))
+      go : (x : Bool) → Moved a to c (pick x (Some a) (find n ls)) (pick x (Some a) (find n ms))
       go true = inl (omega arith, refl)
       go false = k
 
 -- an empty line at the end is ignored
-nothing_there : (n : List ℕ) (c : ℕ) → find n (lines_from c (join c [])) ≡ Nothing
+nothing_there : (n : List ℕ) (c : ℕ) → find n (lines_from c (join c [])) ≡ None
 unfolding find join line_text later_lines blank comment
 nothing_there n c = refl
 

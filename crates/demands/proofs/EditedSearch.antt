@@ -1,5 +1,6 @@
 -- The search over the files of which one is edited: a line that is found is found again, moved if it stands behind the edited line in its file.
 -- Assumes nothing.
+use Rattle.std.specs.Prelude.{Option, Some, None}
 use Prim.Native.Nat.{ℕ, zero, suc, ◌+◌, ◌-◌, ◌≤◌, ◌<◌}
 use mathlib.Core.Path.{◌≡◌, refl, ◌∙◌, ap, sym}
 use mathlib.Core.Bool.{Bool, true, false}
@@ -15,11 +16,7 @@ use Rattle.laws.proofs.Tests.{both_false}
 use Rattle.spec.specs.Chain.{visited}
 use Rattle.spec.specs.Lines.{find_line, line_at}
 use Rattle.spec.specs.Files.{file_at, line_of, or_later, locate, find_from}
-use Rattle.spec.specs.declared.Found.{Found}
-use Rattle.spec.specs.declared.Found.TheVariants.{At as FoundAt, Nothing as NotFound}
 use Rattle.spec.specs.declared.Location.{Location}
-use Rattle.spec.specs.declared.Located.{Located}
-use Rattle.spec.specs.declared.Located.TheVariants.{At, Nothing}
 use Rattle.demands.proofs.EditedFile.{Moved}
 
 -- The line p of the old files is the line q of the edited ones. In a file other than k, or up to the place a, it stays; behind the place `to`
@@ -29,11 +26,11 @@ pub data Same (k a to c : ℕ) : Location → Location → Type 0 where
   upto : (i : ℕ) → i ≤ a → Same k a to c (record { file = k; at = i }) (record { file = k; at = i })
   behind : (d : ℕ) → Same k a to c (record { file = k; at = to + d }) (record { file = k; at = c + d })
 
-abbrev pub FoundAgain : ℕ → ℕ → ℕ → ℕ → Located → Located → Type 0
-FoundAgain k a to c (At p) (At q) = Same k a to c p q
-FoundAgain k a to c (At p) Nothing = ⊥
-FoundAgain k a to c Nothing (At q) = ⊥
-FoundAgain k a to c Nothing Nothing = Unit {0}
+abbrev pub FoundAgain : ℕ → ℕ → ℕ → ℕ → Option Location → Option Location → Type 0
+FoundAgain k a to c (Some p) (Some q) = Same k a to c p q
+FoundAgain k a to c (Some p) None = ⊥
+FoundAgain k a to c None (Some q) = ⊥
+FoundAgain k a to c None None = Unit {0}
 
 module _ (n : List ℕ) (k a to c : ℕ) where
   -- files after the edited one are the same
@@ -42,10 +39,10 @@ module _ (n : List ℕ) (k a to c : ℕ) where
   others j [] h = tt
   others j (f ∷ fs) h = go (find_line f n) (others (j + 1) fs (omega arith))
     where
-      go : (x : Found) → FoundAgain k a to c (locate (j + 1) fs n) (locate (j + 1) fs n)
+      go : (x : Option ℕ) → FoundAgain k a to c (locate (j + 1) fs n) (locate (j + 1) fs n)
           → FoundAgain k a to c (or_later j x (locate (j + 1) fs n)) (or_later j x (locate (j + 1) fs n))
-      go (FoundAt p) ih = elsewhere (record { file = j; at = p }) (λ e. omega arith)
-      go NotFound ih = ih
+      go (Some p) ih = elsewhere (record { file = j; at = p }) (λ e. omega arith)
+      go None ih = ih
 
   module _ (new : List ℕ) where
     edited_here : (m j : ℕ) (fs : List (List ℕ)) → j + m ≡ k → Moved a to c (find_line (get_or fs m []) n) (find_line new n)
@@ -54,23 +51,23 @@ module _ (n : List ℕ) (k a to c : ℕ) where
     edited_here m j [] e h = tt
     edited_here zero j (f ∷ fs) e h = go (find_line f n) (find_line new n) h (others (j + 1) fs (omega arith))
       where
-        go : (x y : Found) → Moved a to c x y → FoundAgain k a to c (locate (j + 1) fs n) (locate (j + 1) fs n)
+        go : (x y : Option ℕ) → Moved a to c x y → FoundAgain k a to c (locate (j + 1) fs n) (locate (j + 1) fs n)
             → FoundAgain k a to c (or_later j x (locate (j + 1) fs n)) (or_later j y (locate (j + 1) fs n))
-        go (FoundAt p) (FoundAt q) h ih =
+        go (Some p) (Some q) h ih =
             let i : j ≡ k = omega arith in
             rw i (⊎_elim (λ u. rw u.1 (upto p u.0)) (λ u. rw (u.1, u.2) (behind u.0)) h)
-        go (FoundAt p) NotFound h ih = absurd h
-        go NotFound (FoundAt q) h ih = absurd h
-        go NotFound NotFound h ih = ih
+        go (Some p) None h ih = absurd h
+        go None (Some q) h ih = absurd h
+        go None None h ih = ih
     edited_here (suc m) j (f ∷ fs) e h = go (find_line f n) (edited_here m (j + 1) fs (omega arith) h)
       where
         before : j ≡ k → ⊥
         before q = omega arith
 
-        go : (x : Found) → FoundAgain k a to c (locate (j + 1) fs n) (locate (j + 1) (set fs m new) n)
+        go : (x : Option ℕ) → FoundAgain k a to c (locate (j + 1) fs n) (locate (j + 1) (set fs m new) n)
             → FoundAgain k a to c (or_later j x (locate (j + 1) fs n)) (or_later j x (locate (j + 1) (set fs m new) n))
-        go (FoundAt p) ih = elsewhere (record { file = j; at = p }) (λ q. before q)
-        go NotFound ih = ih
+        go (Some p) ih = elsewhere (record { file = j; at = p }) (λ q. before q)
+        go None ih = ih
 
     pub found-again : (j : ℕ) (fs : List (List ℕ)) → Moved a to c (find_line (get_or fs k []) n) (find_line new n)
         → FoundAgain k a to c (find_from fs j n) (find_from (set fs k new) j n)

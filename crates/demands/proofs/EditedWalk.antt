@@ -1,5 +1,6 @@
 -- The walk over edited files: an accepted walk that passes the edited line takes the same lines up to it, and ends there.
 -- Assumes nothing.
+use Rattle.std.specs.Prelude.{Option, Some, None}
 use Prim.Native.Nat.{ℕ, suc, ◌+◌, ◌≤◌, ◌<◌}
 use mathlib.Core.Path.{◌≡◌, refl, ◌∙◌, ap, sym}
 use mathlib.Core.Bool.{false}
@@ -9,8 +10,6 @@ use Rattle.spec.specs.Files.{line_of, find_from}
 use Rattle.spec.specs.Fields.{fields_of, line_size, no_link, link_to, verdict}
 use Rattle.spec.specs.Chain.{visited, placed, texts, joined_fields}
 use Rattle.spec.specs.declared.Location.{Location}
-use Rattle.spec.specs.declared.Located.{Located}
-use Rattle.spec.specs.declared.Located.TheVariants.{At, Nothing}
 use Rattle.laws.proofs.Tests.{clash}
 use Rattle.laws.proofs.AcceptedChain.{texts-append, texts-placed}
 use Rattle.laws.proofs.AcceptedWalk.{sizes, Way, last, next, visited_first, new_right, no_end, reach, Stands, stands}
@@ -64,7 +63,7 @@ module _ (k a to c : ℕ) (old : a < to) (new : a < c) where
       (text : (p q : Location) → Same k a to c p q → (p ≡ here → ⊥) → line_of edited q ≡ line_of db p)
       (ends : verdict (line_of edited here) ≡ no_link)
       (covered : line_size (line_of edited here) ≤ line_size (line_of db here) + sizes db after) where
-    pub record Again (n : ℕ) (seen : List Location) (size : ℕ) (found : Located) (before : List Location) : Type 0 where
+    pub record Again (n : ℕ) (seen : List Location) (size : ℕ) (found : Option Location) (before : List Location) : Type 0 where
       pub front : List Location
       pub texts : lines edited front ≡ lines db before
       pub way : Way edited n seen size found (front ++ here ∷ [])
@@ -76,17 +75,17 @@ module _ (k a to c : ℕ) (old : a < to) (new : a < c) where
     links_again p q (behind d) name = again name k
 
     -- a line that the walk passes before the edited one is another line
-    other : {n : ℕ} {seen : List Location} {size : ℕ} {ps : List Location} (p : Location) → Way db n seen size (At p) ps
-        → (before : List Location) (from : ℕ) (name : List ℕ) → At p ≡ find_from db from name → ps ≡ p ∷ before ++ here ∷ after → p ≡ here → ⊥
+    other : {n : ℕ} {seen : List Location} {size : ℕ} {ps : List Location} (p : Location) → Way db n seen size (Some p) ps
+        → (before : List Location) (from : ℕ) (name : List ℕ) → Some p ≡ find_from db from name → ps ≡ p ∷ before ++ here ∷ after → p ≡ here → ⊥
     other {seen = seen} p w before from name g e i =
         let s = stands db here after (reach db here after w (p ∷ before) from name g e).way refl in
         clash (sym (rw i (visited_first here before)) ∙ new_right here seen (p ∷ before) s.new)
 
     -- the edited line is reached
-    ended : (m : ℕ) (seen seen' : List Location) (size : ℕ) (p : Location) (found : Located) → p ≡ here → Stands db here after seen size (At p)
-        → AllSame k a to c old new seen seen' → FoundAgain k a to c (At p) found → Again (suc m) seen' size found []
-    ended m seen seen' size p Nothing e w h s = absurd s
-    ended m seen seen' size p (At q) e w h s =
+    ended : (m : ℕ) (seen seen' : List Location) (size : ℕ) (p : Location) (found : Option Location) → p ≡ here → Stands db here after seen size (Some p)
+        → AllSame k a to c old new seen seen' → FoundAgain k a to c (Some p) found → Again (suc m) seen' size found []
+    ended m seen seen' size p None e w h s = absurd s
+    ended m seen seen' size p (Some q) e w h s =
         let i = stays p q s e in
         let fresh : visited here seen' ≡ false =
         ap (λ (x : Location). visited x seen') (sym i) ∙ visited-again k a to c old new p q seen seen' s h ∙ ap (λ (x : Location). visited x seen) e ∙ w.new in
@@ -96,7 +95,7 @@ module _ (k a to c : ℕ) (old : a < to) (new : a < c) where
     passed : (m : ℕ) (seen seen' : List Location) (size : ℕ) (p q : Location) (name : List ℕ) (before : List Location)
         → visited p seen ≡ false → verdict (line_of db p) ≡ link_to name
         → size + line_size (line_of db p) ≤ 16384 → line_of edited q ≡ line_of db p → AllSame k a to c old new seen seen' → Same k a to c p q
-        → Again m (seen' ++ q ∷ []) (size + line_size (line_of db p)) (find_from edited q.file name) before → Again (suc m) seen' size (At q) (p ∷ before)
+        → Again m (seen' ++ q ∷ []) (size + line_size (line_of db p)) (find_from edited q.file name) before → Again (suc m) seen' size (Some q) (p ∷ before)
     passed m seen seen' size p q name before f v l t h s r =
         let fits : size + line_size (line_of edited q) ≤ 16384 = rw t l in
         let on : Way edited m (seen' ++ q ∷ []) (size + line_size (line_of edited q)) (find_from edited q.file name) (r.front ++ here ∷ []) = rw t r.way in
@@ -106,8 +105,8 @@ module _ (k a to c : ℕ) (old : a < to) (new : a < c) where
           way = next q name (visited-again k a to c old new p q seen seen' s h ∙ f) (ap verdict t ∙ v) fits on;
         }
 
-    pub walk-again : {n : ℕ} {seen : List Location} {size : ℕ} {found : Located} {ps : List Location} → Way db n seen size found ps
-        → (before seen' : List Location) (found' : Located) (from : ℕ) (name : List ℕ) → found ≡ find_from db from name → ps ≡ before ++ here ∷ after
+    pub walk-again : {n : ℕ} {seen : List Location} {size : ℕ} {found : Option Location} {ps : List Location} → Way db n seen size found ps
+        → (before seen' : List Location) (found' : Option Location) (from : ℕ) (name : List ℕ) → found ≡ find_from db from name → ps ≡ before ++ here ∷ after
         → AllSame k a to c old new seen seen' → FoundAgain k a to c found found' → Again n seen' size found' before
     walk-again (last {n = m} {seen = seen} {size = size} p f v l) [] seen' found' from name g e h s =
         let i : p ≡ here = cc in
@@ -118,8 +117,8 @@ module _ (k a to c : ℕ) (old : a < to) (new : a < c) where
     walk-again (last p f v l) (r ∷ before) seen' found' from name g e h s =
         let t : [] ≡ before ++ here ∷ after = cc in
         absurd (no_end before here after t)
-    walk-again (next p link f v l w) (r ∷ before) seen' Nothing from name g e h s = absurd s
-    walk-again (next {n = m} {seen = seen} {size = size} p link {ps = ps} f v l w) (r ∷ before) seen' (At q) from name g e h s =
+    walk-again (next p link f v l w) (r ∷ before) seen' None from name g e h s = absurd s
+    walk-again (next {n = m} {seen = seen} {size = size} p link {ps = ps} f v l w) (r ∷ before) seen' (Some q) from name g e h s =
         let t : ps ≡ before ++ here ∷ after = cc in
         let i : r ≡ p = cc in
         let no = other p (next p link f v l w) before from name g (ap (λ (ls : List Location). p ∷ ls) t) in

@@ -27,8 +27,10 @@ use Rattle.spec.specs.Position.{
   at_place,
   fill_in,
 }
+use Rattle.std.specs.Prelude.{Result, Ok, Err}
 use Rattle.spec.specs.Padding.{Prefix, Split, prefix_of}
 use Rattle.spec.specs.Sending.{Prepared, finished, copied, with_bytes, filled_in, prepared, good_place, prepared_at}
+use Rattle.spec.specs.declared.Refusal.{Refusal}
 use Rattle.spec.specs.declared.Refusal.TheVariants.{NoRoom, UnknownSequence, OutOfRange}
 use Rattle.spec.specs.declared.position.Parameter.{Parameter}
 use Rattle.spec.specs.declared.position.Parameter.TheVariants.{Row, Column}
@@ -40,7 +42,6 @@ use Rattle.spec.specs.declared.position.Pending.TheVariants.{Letter}
 use Rattle.spec.specs.declared.position.Progress.{Progress}
 use Rattle.spec.specs.declared.position.Progress.TheVariants.{More, Whole, Unknown}
 use Rattle.spec.specs.declared.position.Effect.{Effect}
-use Rattle.spec.specs.declared.position.Effect.TheVariants.{Gives, Refused}
 use Rattle.laws.proofs.Tests.{pick_all}
 use Rattle.laws.proofs.Buffers.{not_nine}
 use Rattle.laws.proofs.PaddingLaws.{Shortened, body-short}
@@ -77,9 +78,10 @@ module _ (back up : List ℕ) where
   then-within m n l (refused r) h w = w
 
   module _ (n : ℕ) (g : Raising) (ps : Parameters) (rest : Parameters → Filled) (after : (qs : Parameters) → Within (n + weight size qs) (rest qs)) where
-    onward-within : (e : Effect) → Fits size ps e → Within (suc (suc n) + weight size ps) (onward e rest)
-    onward-within (Gives x qs) h = then-within (n + weight size qs) _ (output_bytes x) (rest qs) (omega arith) (after qs)
-    onward-within (Refused r) h = h
+    onward-within : (e : Result Effect Refusal) → Fits size ps e → Within (suc (suc n) + weight size ps) (onward e rest)
+    onward-within (Ok e) h =
+        then-within (n + weight size e.parameters) _ (output_bytes e.output) (rest e.parameters) (omega arith) (after e.parameters)
+    onward-within (Err r) h = h
 
     on_byte-within : (x : Progress) (more : Pending → Filled) → NarrowProgress x → ((w : Pending) → Within (suc n + weight size ps) (more w))
         → Within (suc (suc n) + weight size ps) (on_byte x g ps more rest)

@@ -1,5 +1,6 @@
 -- ASK 8: a finder that was fed a whole file answers with the line that the search finds in it; and the other promises of its calls.
 -- Assumes nothing.
+use Rattle.std.specs.Prelude.{Option, Some, None, Result, Ok, Err}
 use Prim.Native.Nat.{ℕ, ◌+◌, ◌-◌, ◌≤◌, ◌<◌}
 use mathlib.Core.Path.{◌≡◌, refl, ◌∙◌, ap}
 use mathlib.Core.Bool.{Bool, true, false, not}
@@ -15,11 +16,7 @@ use Rattle.spec.specs.Refusals.{good_name}
 use Rattle.spec.specs.Lines.{Text, end, byte, join, text_at, Line, line_text, later_lines, lines_from, is_ignored, has_name, find, find_line, line_at}
 use Rattle.spec.specs.Lookup.{Hit, none, hit}
 use Rattle.spec.specs.Answers.{Outcome, keeping, put}
-use Rattle.spec.specs.declared.Found.{Found}
-use Rattle.spec.specs.declared.Found.TheVariants.{At, Nothing}
 use Rattle.spec.specs.declared.Refusal.TheVariants.{UnknownName, ChainTooLarge, NoRoom, InvalidState}
-use Rattle.spec.specs.declared.Written.{Written}
-use Rattle.spec.specs.declared.Written.TheVariants.{Count, Refused}
 use Rattle.spec.specs.declared.finder.Finder.{Finder}
 use Rattle.spec.specs.Finder.{Collecting, collecting, line_start, feeding, fed, finished, turn, opened_finder, feed_turn, end_turn, finder_outcome}
 use Rattle.laws.proofs.Judging.{good-name-short}
@@ -28,6 +25,7 @@ use Rattle.laws.proofs.WholeLines.{drop_on}
 use Rattle.demands.specs.Finder.{whole, line_outcome, Finds}
 use Rattle.demands.proofs.Cutting.{run, fed_runs, feed_none, cut}
 use Rattle.demands.proofs.Collected.{gathered, after_line, Reached, line_run}
+use Rattle.spec.specs.declared.Refusal.{Refusal}
 
 -- ---- the lines of a file, by their texts
 
@@ -92,9 +90,9 @@ module _ (db : List ℕ) where
       go true d₁ h k = h
       go false d₁ h k = at_byte b (at + 1) (join (at + 1) (c ∷ s)) (rw (← d₁)) k
 
-  abbrev text_found : Found → Hit
-  text_found Nothing = none
-  text_found (At p) = hit (line_at db p)
+  abbrev text_found : Option ℕ → Hit
+  text_found None = none
+  text_found (Some p) = hit (line_at db p)
 
   found-text : (name : List ℕ) (ls : List Line) → AllAt db ls → first_text name ls ≡ text_found (find name ls)
   unfolding first_text find
@@ -102,7 +100,7 @@ module _ (db : List ℕ) where
   found-text name (l ∷ ls) h = go (both (not (is_ignored l.text)) (has_name name l.text)) (found-text name ls h.1)
     where
       go : (x : Bool) → first_text name ls ≡ text_found (find name ls)
-          → pick x (hit l.text) (first_text name ls) ≡ text_found (pick x (At l.start) (find name ls))
+          → pick x (hit l.text) (first_text name ls) ≡ text_found (pick x (Some l.start) (find name ls))
       go true e = ap hit h.0
       go false e = e
 
@@ -143,24 +141,24 @@ gathered_long (b ∷ l) c t h k = go (ltb c 16385) refl (λ i. gathered_long l (
 
 -- ---- the answer
 
-abbrev outcome_at : Collecting → List ℕ → Outcome Written
+abbrev outcome_at : Collecting → List ℕ → Outcome (Result ℕ Refusal)
 outcome_at z buffer =
     let n = z.line.count in
-    let copied = pick (leb n (length z.text)) (put (take n z.text) n buffer) (keeping (Refused NoRoom) buffer) in
-    let collected = pick (ltb 16384 n) (keeping (Refused ChainTooLarge) buffer) copied in
-    pick (eqb z.line.stage 4) collected (keeping (Refused UnknownName) buffer)
+    let copied = pick (leb n (length z.text)) (put (take n z.text) n buffer) (keeping (Err NoRoom) buffer) in
+    let collected = pick (ltb 16384 n) (keeping (Err ChainTooLarge) buffer) copied in
+    pick (eqb z.line.stage 4) collected (keeping (Err UnknownName) buffer)
 
-ends_outcome : (db : List ℕ) (m : ℕ) (f : Found) (z : Collecting) (buffer : List ℕ) → Ends (text_found db f) m z
+ends_outcome : (db : List ℕ) (m : ℕ) (f : Option ℕ) (z : Collecting) (buffer : List ℕ) → Ends (text_found db f) m z
     → outcome_at z buffer ≡ line_outcome db m f buffer
 unfolding line_outcome
-ends_outcome db m Nothing z buffer (t, e) = rw e
-ends_outcome db m (At p) z buffer (t, n, e) = go (ltb 16384 (length l)) refl
+ends_outcome db m None z buffer (t, e) = rw e
+ends_outcome db m (Some p) z buffer (t, n, e) = go (ltb 16384 (length l)) refl
   where
     l : List ℕ
     l = line_at db p
 
-    no : Outcome Written
-    no = keeping (Refused NoRoom) buffer
+    no : Outcome (Result ℕ Refusal)
+    no = keeping (Err NoRoom) buffer
 
     copied : (y : Bool) → leb (length l) m ≡ y → pick y (put (take (length l) (sets t 0 l)) (length l) buffer) no ≡ pick y (put l (length l) buffer) no
     copied true h =
@@ -169,7 +167,7 @@ ends_outcome db m (At p) z buffer (t, n, e) = go (ltb 16384 (length l)) refl
     copied false h = refl
 
     go : (x : Bool) → ltb 16384 (length l) ≡ x
-        → outcome_at z buffer ≡ pick x (keeping (Refused ChainTooLarge) buffer) (pick (leb (length l) m) (put l (length l) buffer) no)
+        → outcome_at z buffer ≡ pick x (keeping (Err ChainTooLarge) buffer) (pick (leb (length l) m) (put l (length l) buffer) no)
     go true h =
         let i : 16384 < length l = ltb-true 16384 (length l) h in
         let g = gathered_long l 0 t (omega arith) (omega (arith, i)) in
@@ -204,11 +202,11 @@ too_late : (f : Finder) (text block : List ℕ) → (f.ended ≡ 0 → ⊥) → 
 unfolding feed_turn end_turn
 too_late f text block h = rw (ne_eqb f.ended 0 h) (refl, refl)
 
-too_early : (f : Finder) (text buffer : List ℕ) → f.ended ≡ 0 → finder_outcome f text buffer ≡ keeping (Refused InvalidState) buffer
+too_early : (f : Finder) (text buffer : List ℕ) → f.ended ≡ 0 → finder_outcome f text buffer ≡ keeping (Err InvalidState) buffer
 unfolding finder_outcome
 too_early f text buffer e = rw e
 
-text_enough : (f : Finder) (text buffer : List ℕ) → 16384 ≤ length text → (finder_outcome f text buffer).answer ≡ Refused NoRoom → length buffer < f.line.count
+text_enough : (f : Finder) (text buffer : List ℕ) → 16384 ≤ length text → (finder_outcome f text buffer).answer ≡ Err NoRoom → length buffer < f.line.count
 unfolding finder_outcome put
 text_enough f text buffer h =
     go (eqb f.ended 0) (eqb f.line.stage 4) (ltb 16384 n) refl (leb n (length text)) refl (leb (length line) (length buffer)) refl
@@ -219,17 +217,17 @@ text_enough f text buffer h =
     line : List ℕ
     line = take n text
 
-    no : Outcome Written
-    no = keeping (Refused NoRoom) buffer
+    no : Outcome (Result ℕ Refusal)
+    no = keeping (Err NoRoom) buffer
 
-    written : Outcome Written
-    written = record { answer = Count n; buffer = line ++ drop (length line) buffer }
+    written : Outcome (Result ℕ Refusal)
+    written = record { answer = Ok n; buffer = line ++ drop (length line) buffer }
 
-    found : Bool → Bool → Bool → Outcome Written
-    found z u v = pick z (keeping (Refused ChainTooLarge) buffer) (pick u (pick v written no) no)
+    found : Bool → Bool → Bool → Outcome (Result ℕ Refusal)
+    found z u v = pick z (keeping (Err ChainTooLarge) buffer) (pick u (pick v written no) no)
 
     go : (x y z : Bool) → ltb 16384 n ≡ z → (u : Bool) → leb n (length text) ≡ u → (v : Bool) → leb (length line) (length buffer) ≡ v
-        → (pick x (keeping (Refused InvalidState) buffer) (pick y (found z u v) (keeping (Refused UnknownName) buffer))).answer ≡ Refused NoRoom
+        → (pick x (keeping (Err InvalidState) buffer) (pick y (found z u v) (keeping (Err UnknownName) buffer))).answer ≡ Err NoRoom
         → length buffer < n
     go true y z p u q v w e = let c : ◌≡◌ {A = ℕ} 0 1 = cc in absurd (omega arith)
     go false false z p u q v w e = let c : ◌≡◌ {A = ℕ} 0 1 = cc in absurd (omega arith)

@@ -1,5 +1,6 @@
 -- Ask 7's statement: Send at equals its two halves in a row.
 -- Assumes nothing.
+use Rattle.std.specs.Prelude.{Result, Ok, Err}
 use Prim.Native.Nat.{ℕ, ◌≤◌, ◌<◌}
 use mathlib.Core.Path.{◌≡◌, refl}
 use mathlib.Core.Bool.{Bool, true, false}
@@ -31,11 +32,9 @@ use Rattle.spec.specs.Sending.{
   pad_outcome,
 }
 use Rattle.spec.specs.declared.Refusal.TheVariants.{NoRoom, OutOfRange}
-use Rattle.spec.specs.declared.Written.{Written}
-use Rattle.spec.specs.declared.Written.TheVariants.{Count, Refused}
 use Rattle.spec.specs.declared.Finished.{Finished as FinishedCommand}
-use Rattle.spec.specs.declared.Fill.TheVariants.{Finished}
 use Rattle.demands.specs.Halves.{RoomBetween, and_then, TwoInARow, DelayTaken, Halves}
+use Rattle.spec.specs.declared.Refusal.{Refusal}
 
 -- ---- the delay that the first half gives is never refused by the second
 
@@ -72,11 +71,11 @@ module _ (lines speed pad : ℕ) (between buffer : List ℕ) where
   unfolding pad_outcome delivered put
   in_a_row (finished f) small room = go (leb (length f.bytes) (length between)) room
     where
-      full : Outcome Written
-      full = record { answer = Count (length f.bytes); buffer = f.bytes ++ drop (length f.bytes) between }
+      full : Outcome (Result ℕ Refusal)
+      full = record { answer = Ok (length f.bytes); buffer = f.bytes ++ drop (length f.bytes) between }
 
-      kept : Outcome Written
-      kept = keeping (Refused NoRoom) between
+      kept : Outcome (Result ℕ Refusal)
+      kept = keeping (Err NoRoom) between
 
       go : (t : Bool) → RoomBetween (filled_answer f.delay f.star (pick t full kept).answer)
           → delivered (padded (finished f) lines speed pad) buffer
@@ -90,12 +89,12 @@ unfolding send_at_outcome fill_outcome
 two_in_a_row cmd row column back up between lines speed pad buffer room =
     in_a_row lines speed pad between buffer (prepared_at cmd row column back up) (prepared-small cmd row column back up) room
 
-answer-small : (p : Prepared) (between : List ℕ) (f : FinishedCommand) → SmallDelay p → (filled_into p between).answer ≡ Finished f → f.delay ≤ 99999
+answer-small : (p : Prepared) (between : List ℕ) (f : FinishedCommand) → SmallDelay p → (filled_into p between).answer ≡ Ok f → f.delay ≤ 99999
 answer-small (finished g) between f small e = go (put g.bytes (length g.bytes) between).answer e
   where
-    go : (w : Written) → filled_answer g.delay g.star w ≡ Finished f → f.delay ≤ 99999
-    go (Count n) e = let same : record { delay = g.delay; star = g.star; count = n } ≡ f = cc in rw (← same) small
-    go (Refused r) e = let z : ◌≡◌ {A = ℕ} 0 1 = cc in absurd (omega arith)
+    go : (w : Result ℕ Refusal) → filled_answer g.delay g.star w ≡ Ok f → f.delay ≤ 99999
+    go (Ok n) e = let same : record { delay = g.delay; star = g.star; count = n } ≡ f = cc in rw (← same) small
+    go (Err r) e = let z : ◌≡◌ {A = ℕ} 0 1 = cc in absurd (omega arith)
 answer-small (refused r) between f small e = let z : ◌≡◌ {A = ℕ} 0 1 = cc in absurd (omega arith)
 
 delay_taken : DelayTaken

@@ -1,4 +1,5 @@
 -- Document 01's limits hold of the definitions. Assumes nothing.
+use Rattle.std.specs.Prelude.{Some, Ok, Err}
 use Prim.Native.Nat.{ℕ, ◌+◌, ◌≤◌, ◌<◌}
 use mathlib.Core.Path.{◌≡◌, refl, ap}
 use mathlib.Core.Bool.{true, false}
@@ -13,10 +14,7 @@ use Rattle.spec.specs.Chain.{broken, chain, walk, refused, resolve}
 use Rattle.spec.specs.Questions.{terminal_of, shown, show_answer, flag_answer}
 use Rattle.spec.specs.Calls.{ascii}
 use Rattle.spec.specs.declared.Location.{Location}
-use Rattle.spec.specs.declared.Located.TheVariants.{At}
 use Rattle.spec.specs.declared.Refusal.TheVariants.{DatabaseTooLarge, ChainTooLarge, UnknownName}
-use Rattle.spec.specs.declared.Answer.TheVariants.{Present, Refused}
-use Rattle.spec.specs.declared.Shown.TheVariants.{Refused as NotShown}
 use Rattle.spec.proofs.Computing.{computing}
 use Rattle.laws.proofs.AcceptedWalk.{sizes, walk_way, way_count, way_fits}
 use Rattle.laws.proofs.WalkSteps.{visited_nil, follow_last, follow_big, walk_first}
@@ -38,17 +36,17 @@ unfolding terminal_of show_answer too_large
 database_kept db name g h e = (rw (g, e, le-ltb 1048576 (length db.bytes) h), rw (g, e, le-ltb 1048576 (length db.bytes) h))
 
 database_refused : (db : Files) (name : List ℕ) → good_ends db ≡ true → 1048576 < length db.bytes → good_name name ≡ true
-    → (terminal_of db name ≡ refused DatabaseTooLarge) × (show_answer db name ≡ NotShown DatabaseTooLarge)
+    → (terminal_of db name ≡ refused DatabaseTooLarge) × (show_answer db name ≡ Err DatabaseTooLarge)
 unfolding terminal_of show_answer too_large
 database_refused db name g h e = (rw (g, e, lt-ltb 1048576 (length db.bytes) h), rw (g, e, lt-ltb 1048576 (length db.bytes) h))
 
 -- ---- the size of a chain
 
-size-kept : (db : List (List ℕ)) (name : List ℕ) (p : Location) → find_from db 0 name ≡ At p → verdict (line_of db p) ≡ no_link
+size-kept : (db : List (List ℕ)) (name : List ℕ) (p : Location) → find_from db 0 name ≡ Some p → verdict (line_of db p) ≡ no_link
     → line_size (line_of db p) ≤ 16384 → walk db name ≡ chain (p ∷ [])
 size-kept db name p e v h = rw (walk_first db name, e) (follow_last db [] 0 UnknownName 0 p (omega arith) (visited_nil p) v (omega (arith, h)))
 
-size-refused : (db : List (List ℕ)) (name : List ℕ) (p : Location) → find_from db 0 name ≡ At p → (verdict (line_of db p) ≡ malformed_line → ⊥)
+size-refused : (db : List (List ℕ)) (name : List ℕ) (p : Location) → find_from db 0 name ≡ Some p → (verdict (line_of db p) ≡ malformed_line → ⊥)
     → 16384 < line_size (line_of db p) → walk db name ≡ broken ChainTooLarge
 size-refused db name p e v h = rw (walk_first db name, e) (follow_big db [] 0 UnknownName 0 p (omega arith) (visited_nil p) v (omega (arith, h)))
 
@@ -64,11 +62,11 @@ accepted db name ps w =
 
 -- ---- 32 descriptions
 
-chain_of_32 : flag_answer (alone thirty_three) (ascii "B") (ascii "am") ≡ Present 1
+chain_of_32 : flag_answer (alone thirty_three) (ascii "B") (ascii "am") ≡ (Ok (Some 1))
 unfolding computing
 chain_of_32 = refl
 
-chain_of_33 : flag_answer (alone thirty_three) (ascii "A") (ascii "am") ≡ Refused ChainTooLarge
+chain_of_33 : flag_answer (alone thirty_three) (ascii "A") (ascii "am") ≡ Err ChainTooLarge
 unfolding computing
 chain_of_33 = refl
 

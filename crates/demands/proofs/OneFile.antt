@@ -1,5 +1,7 @@
 -- One file that fills the buffer: every answer is as before.
 -- Assumes nothing.
+use Rattle.spec.specs.declared.Part.{Part}
+use Rattle.std.specs.Prelude.{Option, Some, None, Result, Ok}
 use Prim.Native.Nat.{ℕ, zero, suc, ◌+◌}
 use mathlib.Core.Path.{◌≡◌, refl, ◌∙◌, ap, sym}
 use mathlib.Core.Bool.{Bool, true, false, not}
@@ -11,22 +13,7 @@ use lib.Seq.{take_at, drop_at}
 use Rattle.spec.specs.Choice.{pick, both, either}
 use Rattle.spec.specs.Refusals.{good_name, too_large}
 use Rattle.spec.specs.Lines.{find_line, line_at, extent}
-use Rattle.spec.specs.Fields.{
-  names_of,
-  fields_of,
-  line_size,
-  Verdict,
-  malformed_line,
-  no_link,
-  link_to,
-  verdict,
-  Reading,
-  malformed,
-  ignored,
-  link,
-  capability,
-  reading,
-}
+use Rattle.spec.specs.Fields.{fields_of, line_size, Verdict, malformed_line, no_link, link_to, verdict, Reading, malformed, ignored, link, capability, reading}
 use Rattle.spec.specs.Files.{alone, file_start, file_at, or_later, locate, find_from}
 use Rattle.spec.specs.Chain as New
 use Rattle.spec.specs.Chain.{Field, placed, texts, Terminal, refused, terminal}
@@ -35,17 +22,10 @@ use Rattle.spec.specs.Answers.{Outcome}
 use Rattle.spec.specs.Questions.{terminal_of, terminal_for, answer_for, string_for, shown, show_answer, flag_answer, number_answer, string_outcome}
 use Rattle.spec.specs.Batch.{batch_outcome}
 use Rattle.spec.specs.Listing.{record_of, records, list_for, flat_for, list_outcome, flat_outcome}
-use Rattle.spec.specs.declared.Found.{Found}
-use Rattle.spec.specs.declared.Found.TheVariants.{At, Nothing}
 use Rattle.spec.specs.declared.Location.{Location}
-use Rattle.spec.specs.declared.Located.{Located}
-use Rattle.spec.specs.declared.Located.TheVariants.{At as LocatedAt, Nothing as Nowhere}
 use Rattle.spec.specs.declared.Refusal.{Refusal}
 use Rattle.spec.specs.declared.Refusal.TheVariants.{BadName, DatabaseTooLarge, LostLink, UnknownName, Cycle, ChainTooLarge}
 use Rattle.spec.specs.declared.Kind.TheVariants.{Flag, Number}
-use Rattle.spec.specs.declared.Shown.TheVariants.{Part}
-use Rattle.spec.specs.declared.Written.{Written}
-use Rattle.spec.specs.declared.Written.TheVariants.{Count}
 use Rattle.laws.proofs.FileLines.{line-alone, good-alone, contents-alone}
 use Rattle.laws.proofs.Removal.{AllWin}
 use Rattle.laws.proofs.Winning.{winning-wins}
@@ -81,9 +61,9 @@ use Rattle.demands.proofs.Demand3.{put-room, record_list, put-listed}
 abbrev in_first : ℕ → Location
 in_first p = record { file = 0; at = p }
 
-abbrev located : Found → Located
-located (At p) = LocatedAt (in_first p)
-located Nothing = Nowhere
+abbrev located : Option ℕ → Option Location
+located (Some p) = Some (in_first p)
+located None = None
 
 abbrev moved : PlaceChain → New.Chain
 moved (broken r) = New.broken r
@@ -98,9 +78,9 @@ module _ (db : List ℕ) where
   unfolding find_from locate
   find-alone name = go (find_line db name)
     where
-      go : (x : Found) → or_later 0 x Nowhere ≡ located x
-      go (At p) = refl
-      go Nothing = refl
+      go : (x : Option ℕ) → or_later 0 x None ≡ located x
+      go (Some p) = refl
+      go None = refl
 
   visited-alone : (p : ℕ) (ps : List ℕ) → New.visited (in_first p) (map in_first ps) ≡ passed p ps
   unfolding New.visited passed
@@ -126,13 +106,13 @@ module _ (db : List ℕ) where
   pick_moved true a b = refl
   pick_moved false a b = refl
 
-  follow-alone : (n : ℕ) (seen : List ℕ) (size : ℕ) (missing : Refusal) (found : Found)
+  follow-alone : (n : ℕ) (seen : List ℕ) (size : ℕ) (missing : Refusal) (found : Option ℕ)
       → New.follow (db ∷ []) n (map in_first seen) size missing (located found) ≡ moved (followed db n seen size missing found)
   unfolding New.follow followed
-  follow-alone zero seen size missing Nothing = refl
-  follow-alone zero seen size missing (At p) = rw (visited-alone p seen) (pick_moved (passed p seen) (broken Cycle) (broken ChainTooLarge))
-  follow-alone (suc n) seen size missing Nothing = refl
-  follow-alone (suc n) seen size missing (At p) =
+  follow-alone zero seen size missing None = refl
+  follow-alone zero seen size missing (Some p) = rw (visited-alone p seen) (pick_moved (passed p seen) (broken Cycle) (broken ChainTooLarge))
+  follow-alone (suc n) seen size missing None = refl
+  follow-alone (suc n) seen size missing (Some p) =
       rw (
         line-alone db p,
         visited-alone p seen,
@@ -172,16 +152,16 @@ module _ (db : List ℕ) where
   unfolding terminal_for asked_before
   asked-alone name id = rw (good-alone db, terminal-alone name)
 
-  shown-alone : (x : Found) → shown (alone db) (located x) ≡ shown_before db x
+  shown-alone : (x : Option ℕ) → shown (alone db) (located x) ≡ shown_before db x
   unfolding shown shown_before file_start file_at
-  shown-alone (At p) = rw (contents-alone db) (go p (extent db p))
+  shown-alone (Some p) = rw (contents-alone db) (go p (extent db p))
     where
       plus : (n : ℕ) → 0 + n ≡ n
       plus n = omega arith
 
-      go : (a b : ℕ) → Part (0 + a) (0 + b) ≡ Part a b
+      go : (a b : ℕ) → ◌≡◌ {A = Result Part Refusal} (Ok (record { from = 0 + a; to = 0 + b })) (Ok (record { from = a; to = b }))
       go a b = rw (plus a, plus b)
-  shown-alone Nothing = refl
+  shown-alone None = refl
 
   show-alone : (name : List ℕ) → show_answer (alone db) name ≡ show_before db name
   unfolding show_answer show_before
@@ -266,7 +246,7 @@ first_before db name = go (good_name name) (too_large db) (first_terminal db (fo
     go false y h = tt
 
 cut_all : (gs : List Field) (before : List ℕ) → AllWin (texts gs)
-    → listed_before (record { answer = Count (length gs); buffer = records_before gs ++ drop (length (records_before gs)) before }) ≡ list_before gs
+    → listed_before (record { answer = Ok (length gs); buffer = records_before gs ++ drop (length (records_before gs)) before }) ≡ list_before gs
 unfolding listed_before
 cut_all gs before w = cut-before gs (drop (length (records_before gs)) before) w
 
@@ -278,7 +258,7 @@ list-before (terminal names fs) z buffer before h k =
     let w = winning-wins fs in
     let a = put-room (records (winning fs)) (length (winning fs)) buffer h in
     let b = put-room (records_before (winning fs)) (length (winning fs)) before k in (
-      ap (λ (o : Outcome Written). o.answer) a ∙ sym (ap (λ (o : Outcome Written). o.answer) b),
+      ap (λ (o : Outcome (Result ℕ Refusal)). o.answer) a ∙ sym (ap (λ (o : Outcome (Result ℕ Refusal)). o.answer) b),
       put-listed (winning fs) buffer w h ∙ tail_records (winning fs) w (unfold winning in first_winning [] fs z) ∙ ap (map with_tail)
           (sym (ap listed_before b ∙ cut_all (winning fs) before w)),
     )

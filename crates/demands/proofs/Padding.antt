@@ -1,4 +1,5 @@
 -- Demand 2's padding law holds of what Send, Send at and its second half write and report. Assumes nothing.
+use Rattle.std.specs.Prelude.{Result, Ok, Err}
 use mathlib.Core.Path.{◌≡◌, refl, sym, ap, ◌∙◌}
 use mathlib.Core.Bool.{Bool, true, false}
 use mathlib.Core.List.{List, ◌++◌}
@@ -34,8 +35,6 @@ use Rattle.spec.specs.Sending.{
 use Rattle.laws.proofs.PaddingLaws.{pads_last, pads_fewest, pads_no_delay, pads_no_speed}
 use Rattle.spec.specs.declared.Refusal.{Refusal}
 use Rattle.spec.specs.declared.Refusal.TheVariants.{NoRoom, OutOfRange}
-use Rattle.spec.specs.declared.Written.{Written}
-use Rattle.spec.specs.declared.Written.TheVariants.{Count, Refused}
 use Rattle.demands.specs.Padding.{PaddingLaw, Padded, PaddingDemand}
 
 padding_law : (delay speed : ℕ) → PaddingLaw delay speed (pad_count delay speed)
@@ -44,30 +43,30 @@ padding_law d s =
 
 -- ---- what is delivered and counted is all that goes out; a refusal is no count
 
-not_counted : {A : Type 0} (r : Refusal) (n : ℕ) → Refused r ≡ Count n → A
+not_counted : {A : Type 0} (r : Refusal) (n : ℕ) → Err r ≡ Ok n → A
 not_counted r n e = let z : ◌≡◌ {A = ℕ} 0 1 = cc in absurd (omega arith)
 
-not_stopped : {A : Type 0} (r : Refusal) (buffer : List ℕ) (n : ℕ) → (delivered (stops r) buffer).answer ≡ Count n → A
+not_stopped : {A : Type 0} (r : Refusal) (buffer : List ℕ) (n : ℕ) → (delivered (stops r) buffer).answer ≡ Ok n → A
 unfolding delivered
 not_stopped r buffer n e = not_counted r n e
 
-abbrev AllOut : List ℕ → List ℕ → ℕ → Outcome Written → Type 0
+abbrev AllOut : List ℕ → List ℕ → ℕ → Outcome (Result ℕ Refusal) → Type 0
 AllOut l buffer n o = (length l ≡ n) × (o.buffer ≡ l ++ drop n buffer)
 
-all_out : (l buffer : List ℕ) (n : ℕ) → (delivered (sends l) buffer).answer ≡ Count n → AllOut l buffer n (delivered (sends l) buffer)
+all_out : (l buffer : List ℕ) (n : ℕ) → (delivered (sends l) buffer).answer ≡ Ok n → AllOut l buffer n (delivered (sends l) buffer)
 unfolding delivered put
 all_out l buffer n = go (leb (length l) (length buffer))
   where
-    whole : Outcome Written
-    whole = record { answer = Count (length l); buffer = l ++ drop (length l) buffer }
+    whole : Outcome (Result ℕ Refusal)
+    whole = record { answer = Ok (length l); buffer = l ++ drop (length l) buffer }
 
-    go : (t : Bool) → (pick t whole (keeping (Refused NoRoom) buffer)).answer ≡ Count n → AllOut l buffer n (pick t whole (keeping (Refused NoRoom) buffer))
+    go : (t : Bool) → (pick t whole (keeping (Err NoRoom) buffer)).answer ≡ Ok n → AllOut l buffer n (pick t whole (keeping (Err NoRoom) buffer))
     go true e = let same : length l ≡ n = cc in (same, rw same)
     go false e = not_counted NoRoom n e
 
 module _ (lines speed pad : ℕ) (buffer : List ℕ) (n : ℕ) where
   -- Finished bytes are padded and counted, or 12.
-  padded-by : (f : Finished) → (delivered (padded (finished f) lines speed pad) buffer).answer ≡ Count n
+  padded-by : (f : Finished) → (delivered (padded (finished f) lines speed pad) buffer).answer ≡ Ok n
       → Padded f.delay f.star f.bytes lines speed pad buffer (delivered (padded (finished f) lines speed pad) buffer) n
   unfolding pads_of
   padded-by f = by_speed (good_speed lines speed)
@@ -78,7 +77,7 @@ module _ (lines speed pad : ℕ) (buffer : List ℕ) (n : ℕ) where
       sent : List ℕ
       sent = f.bytes ++ replicate pads pad
 
-      by_speed : (t : Bool) → (delivered (pick t (sends sent) (stops OutOfRange)) buffer).answer ≡ Count n
+      by_speed : (t : Bool) → (delivered (pick t (sends sent) (stops OutOfRange)) buffer).answer ≡ Ok n
           → Padded f.delay f.star f.bytes lines speed pad buffer (delivered (pick t (sends sent) (stops OutOfRange)) buffer) n
       by_speed true h =
           let out = all_out sent buffer n h in
@@ -90,7 +89,7 @@ module _ (lines speed pad : ℕ) (buffer : List ℕ) (n : ℕ) where
           }
       by_speed false h = not_stopped OutOfRange buffer n h
 
-  pad-pads : (delay : ℕ) (star : Bool) (bytes : List ℕ) → (pad_outcome delay star bytes lines speed pad buffer).answer ≡ Count n
+  pad-pads : (delay : ℕ) (star : Bool) (bytes : List ℕ) → (pad_outcome delay star bytes lines speed pad buffer).answer ≡ Ok n
       → Padded delay star bytes lines speed pad buffer (pad_outcome delay star bytes lines speed pad buffer) n
   unfolding pad_outcome
   pad-pads delay star bytes = by-delay (leb delay 99999)
@@ -98,14 +97,14 @@ module _ (lines speed pad : ℕ) (buffer : List ℕ) (n : ℕ) where
       apart : Finished
       apart = record { delay = delay; star = star; bytes = bytes }
 
-      by-delay : (t : Bool) → (delivered (padded (pick t (finished apart) (refused OutOfRange)) lines speed pad) buffer).answer ≡ Count n
+      by-delay : (t : Bool) → (delivered (padded (pick t (finished apart) (refused OutOfRange)) lines speed pad) buffer).answer ≡ Ok n
           → Padded delay star bytes lines speed pad buffer (delivered (padded (pick t (finished apart) (refused OutOfRange)) lines speed pad) buffer) n
       by-delay true h = padded-by apart h
       by-delay false h = not_stopped OutOfRange buffer n h
 
   module _ (cmd : List ℕ) where
     abbrev Sent : Prepared → Type 0
-    Sent x = (delivered (padded x lines speed pad) buffer).answer ≡ Count n
+    Sent x = (delivered (padded x lines speed pad) buffer).answer ≡ Ok n
         → (p : Split)
         × (prefix_of cmd ≡ Prefix.split p)
         × Padded p.delay p.star p.body lines speed pad buffer (delivered (padded x lines speed pad) buffer) n
@@ -120,7 +119,7 @@ module _ (lines speed pad : ℕ) (buffer : List ℕ) (n : ℕ) where
 
     module _ (row column : ℕ) (back up : List ℕ) where
       abbrev SentAt : Prepared → Type 0
-      SentAt x = (delivered (padded x lines speed pad) buffer).answer ≡ Count n
+      SentAt x = (delivered (padded x lines speed pad) buffer).answer ≡ Ok n
           → (p : Split)
           × (l : List ℕ)
           × (prefix_of cmd ≡ Prefix.split p)

@@ -1,6 +1,7 @@
 -- Pasting, the fields: the parent's winning fields in place of the link and of the parent's chain leave the winning fields' texts as they were.
 -- Two terminals with the same names whose winning fields have the same texts give the same answers.
 -- Assumes nothing.
+use Rattle.std.specs.Prelude.{Option, Some, None}
 use Prim.Native.Nat.{ℕ, ◌<◌}
 use mathlib.Core.Path.{◌≡◌, refl, ◌∙◌, ap, sym}
 use mathlib.Core.Bool.{Bool, true, false}
@@ -17,8 +18,6 @@ use Rattle.spec.specs.Lookup.{lookup, winning}
 use Rattle.spec.specs.Questions.{terminal_for, answer_for, flag_answer, number_answer, string_for, string_outcome}
 use Rattle.spec.specs.Listing.{records, list_outcome, flat_text, flat_for, flat_outcome}
 use Rattle.spec.specs.Batch.{kind_answer, batch_answer, batch_answers, batch_outcome}
-use Rattle.spec.specs.declared.Numbered.{Numbered}
-use Rattle.spec.specs.declared.Numbered.TheVariants.{Is, Nothing}
 use Rattle.spec.specs.declared.Kind.TheVariants.{Flag, Number, String}
 use Rattle.spec.specs.declared.Kind.{Kind}
 use Rattle.spec.specs.declared.Refusal.TheVariants.{BadId}
@@ -83,9 +82,9 @@ module _ (names : List ℕ) (fs gs : List Field) (same : texts (winning gs) ≡ 
   batch-same (a ∷ b ∷ k ∷ []) = refl
   batch-same (a ∷ b ∷ k ∷ z ∷ qs) = rw (by_kind (kind_of k), batch-same qs)
     where
-      by_kind : (n : Numbered) → kind_answer n (a ∷ b ∷ []) (terminal names gs) ≡ kind_answer n (a ∷ b ∷ []) (terminal names fs)
-      by_kind (Is k) = answer-same (a ∷ b ∷ []) k
-      by_kind Nothing = refl
+      by_kind : (n : Option Kind) → kind_answer n (a ∷ b ∷ []) (terminal names gs) ≡ kind_answer n (a ∷ b ∷ []) (terminal names fs)
+      by_kind (Some k) = answer-same (a ∷ b ∷ []) k
+      by_kind None = refl
 
   module _ (db after : Files) (name : List ℕ) (old : Accepted db name names fs) (new : Accepted after name names gs) where
     -- the terminal of a question, of an accepted chain

@@ -1,6 +1,7 @@
 -- Pasting, the files: the winning fields of the chain that a line's link leads to, in place of the link. The walk ends at that line, and the
 -- same texts win.
 -- Assumes nothing.
+use Rattle.std.specs.Prelude.{Option}
 use Prim.Native.Nat.{ℕ, ◌+◌, ◌≤◌, ◌<◌}
 use mathlib.Core.Path.{◌≡◌, refl, ◌∙◌, ap, sym}
 use mathlib.Core.List.{List, [], ◌∷◌, ◌++◌, append-nil, append_assoc}
@@ -12,7 +13,6 @@ use Rattle.spec.specs.Chain.{chain, walk, Field, texts, joined_fields, first_nam
 use Rattle.spec.specs.Lookup.{winning}
 use Rattle.spec.specs.Repair.{own_bytes}
 use Rattle.spec.specs.declared.Location.{Location}
-use Rattle.spec.specs.declared.Located.{Located}
 use Rattle.laws.proofs.WholeLines.{Holds}
 use Rattle.laws.proofs.EditedLines.{Cut, found-cut}
 use Rattle.laws.proofs.FileLines.{line_of_free, located_holds, located_line}
@@ -52,7 +52,7 @@ module _ (db : List (List ℕ)) (name : List ℕ) (l : Location) (before after :
   stood = stands db l after reached.way refl
 
   -- the chain of what the link leads to is accepted on its own, however that line is found
-  pub linked_way : (found : Located) → found ≡ find_from db l.file linked → Way db 32 [] 0 found after
+  pub linked_way : (found : Option Location) → found ≡ find_from db l.file linked → Way db 32 [] 0 found after
   linked_way found e = rw e (onward db l after linked link reached.way refl reached.fewer)
 
   -- ---- the line

@@ -1,5 +1,6 @@
 -- Ask 13 holds: the parent's fields pasted in place leave every answer as it was.
 -- Assumes nothing.
+use Rattle.std.specs.Prelude.{Option}
 use Prim.Native.Nat.{ℕ, ◌+◌, ◌≤◌, ◌<◌}
 use mathlib.Core.Path.{◌≡◌, ◌∙◌, ap, sym}
 use mathlib.Core.Bool.{true, false}
@@ -16,7 +17,6 @@ use Rattle.spec.specs.Questions.{terminal_of}
 use Rattle.spec.specs.Listing.{flat_text, flat_outcome}
 use Rattle.spec.specs.Repair.{own_bytes}
 use Rattle.spec.specs.declared.Location.{Location}
-use Rattle.spec.specs.declared.Located.{Located}
 use Rattle.laws.proofs.FieldTexts.{closed-fields}
 use Rattle.laws.proofs.Judging.{verdict-good}
 use Rattle.laws.proofs.FileParts.{length-contents}
@@ -64,7 +64,7 @@ module _ (db : Files) (name : List ℕ) (l : Location) (lent : List ℕ) (p : Pa
 
   linked-accepted : Accepted db p.linked (first_names old_files p.after) (joined_fields old_files 0 p.after)
   linked-accepted =
-      let found : Located = find_from old_files 0 p.linked in
+      let found : (Option Location) = find_from old_files 0 p.linked in
       accepted-walk db p.linked p.after good (verdict-good (line_of old_files l) p.linked p.has_link) small
       (way_walk old_files p.linked p.after
       (linked_way old_files name l p.before p.after p.linked p.in_chain p.has_link found p.same_line))

@@ -1,7 +1,10 @@
 -- Ask 2's promises hold of every repair that is not refused.
 -- Assumes nothing.
+use Rattle.spec.specs.declared.Refusal.{Refusal}
+use Rattle.spec.specs.declared.Amounts.{Amounts}
+use Rattle.std.specs.Prelude.{Ok, Err, Result}
 use Prim.Native.Nat.{ℕ, ◌+◌, ◌≤◌}
-use mathlib.Core.Path.{◌≡◌, refl, ◌∙◌}
+use mathlib.Core.Path.{◌≡◌, refl, ◌∙◌, ap}
 use mathlib.Core.Bool.{Bool, true, false}
 use mathlib.Core.List.{List, [], ◌∷◌, ◌++◌}
 use native.Mathlib.Omega.{arith}
@@ -29,7 +32,6 @@ use Rattle.spec.specs.Repair.{
   repair_outcome,
 }
 use Rattle.spec.specs.declared.Refusal.TheVariants.{DatabaseTooLarge, TooManyLines, NoRoom}
-use Rattle.spec.specs.declared.Repaired.TheVariants.{Counts, Refused}
 use Rattle.demands.specs.RepairPromises.{Repairs, RepairPromises, Promised}
 use Rattle.demands.proofs.MendedLines.{Parallel}
 use Rattle.demands.proofs.RepairSound.{mended-sound, parallel}
@@ -41,7 +43,7 @@ use Rattle.laws.proofs.NoLonger.{mended-short}
 
 abbrev done : Mended → List ℕ → List ℕ → RepairOutcome
 done m text records = record {
-  answer = Counts (length m.text) (length m.records);
+  answer = (Ok (record { bytes = (length m.text); records = (length m.records) }));
   text = m.text ++ drop (length m.text) text;
   records = flattened m.records ++ drop (length (flattened m.records)) records;
 }
@@ -63,9 +65,9 @@ accepted db text records bytes count e =
   where
     go : (x : Bool) → ltb 1048576 (length db) ≡ x → (y : Bool) → ltb 4096 (descriptions (lines_of db)) ≡ y
         → (z : Bool) → both (leb (length (mended db).text) (length text)) (leb (length (flattened (mended db).records)) (length records)) ≡ z
-        → (pick x (record { answer = Refused DatabaseTooLarge; text = text; records = records })
-        (pick y (record { answer = Refused TooManyLines; text = text; records = records })
-        (pick z (done (mended db) text records) (record { answer = Refused NoRoom; text = text; records = records })))).answer ≡ Counts bytes count
+        → (pick x (record { answer = Err DatabaseTooLarge; text = text; records = records })
+        (pick y (record { answer = Err TooManyLines; text = text; records = records })
+        (pick z (done (mended db) text records) (record { answer = Err NoRoom; text = text; records = records })))).answer ≡ (Ok (record { bytes = bytes; records = count }))
         → Accepted db text records
     go true a y b z c q = let w : ◌≡◌ {A = ℕ} 0 1 = cc in absurd (omega arith)
     go false a true b z c q = let w : ◌≡◌ {A = ℕ} 0 1 = cc in absurd (omega arith)
@@ -106,13 +108,18 @@ module _ (db text records : List ℕ) (bytes count : ℕ) (e : Repairs (repair_o
   outcome = accepted_done db text records ok
 
   size : length (mended db).text ≡ bytes
-  size = let q : Counts (length (mended db).text) (length (mended db).records) ≡ Counts bytes count = rw outcome at e in cc
+  size =
+      let q : ◌≡◌ {A = Result Amounts Refusal} (Ok (record { bytes = length (mended db).text; records = length (mended db).records }))
+      (Ok (record { bytes = bytes; records = count })) = rw outcome at e in
+      let all : ◌≡◌ {A = Amounts} (record { bytes = length (mended db).text; records = length (mended db).records })
+      (record { bytes = bytes; records = count }) = cc in
+      ap (λ (a : Amounts). a.bytes) all
 
   written : take bytes (repair_outcome db text records).text ≡ (mended db).text
   written = rw outcome (take_at (mended db).text (drop (length (mended db).text) text) bytes size)
 
   second : (more : List ℕ) → repair_outcome (mended db).text text more
-      ≡ record { answer = Counts (length (mended db).text) 0; text = (mended db).text ++ drop (length (mended db).text) text; records = more }
+      ≡ record { answer = Ok (record { bytes = length (mended db).text; records = 0 }); text = (mended db).text ++ drop (length (mended db).text) text; records = more }
   second more =
       let m = (mended db).text in
       let same : mended m ≡ record { text = m; records = [] } = mended-unchanged m (mended-sound db) in

@@ -1,5 +1,6 @@
 -- THE MENDED DATABASE IS SOUND: none of its lines is malformed, each link is found, and no links come back.
 -- Assumes nothing.
+use Rattle.std.specs.Prelude.{Option, Some, None}
 use Prim.Native.Nat.{ℕ, zero, suc, ◌+◌, ◌≤◌}
 use mathlib.Core.Path.{◌≡◌, refl, ◌∙◌, sym}
 use mathlib.Core.Logic.{◌⊎◌, inl, inr}
@@ -15,8 +16,6 @@ use Rattle.laws.proofs.Tests.{clash}
 use Rattle.spec.specs.Lines.{Text, end, byte, join, text_at, Line, line_text, later_lines, is_ignored, has_name, find, find_line, line_at}
 use Rattle.spec.specs.Fields.{Reading, malformed, ignored, link, capability, reading, Verdict, malformed_line, no_link, link_to, verdict}
 use Rattle.spec.specs.Lists.{upto}
-use Rattle.spec.specs.declared.Found.{Found}
-use Rattle.spec.specs.declared.Found.TheVariants.{At, Nothing}
 use Rattle.spec.specs.Repair.{
   lines_of,
   left,
@@ -45,11 +44,11 @@ use Rattle.demands.proofs.MendedLines.{left-verdict, Parallel, mend_parallel}
 
 -- ---- the links that are not removed stand, and are found
 
-abbrev pub Has : ℕ → Found → List Link → Type 0
+abbrev pub Has : ℕ → Option ℕ → List Link → Type 0
 Has p f [] = ⊥
 Has p f (k ∷ ks) = ((k.at ≡ p) × (k.to ≡ f)) ⊎ Has p f ks
 
-fresh_has : (p : ℕ) (f : Found) (ks : List Link) → Fresh p ks → Has p f ks → ⊥
+fresh_has : (p : ℕ) (f : Option ℕ) (ks : List Link) → Fresh p ks → Has p f ks → ⊥
 fresh_has p f [] h impossible = elim impossible [ ]
 fresh_has p f (k ∷ ks) h (inl e) = h.0 e.0
 fresh_has p f (k ∷ ks) h (inr e) = fresh_has p f ks h.1 e
@@ -58,34 +57,34 @@ fresh_left : (p : ℕ) (a b : List Link) → Fresh p (a ++ b) → Fresh p a
 fresh_left p [] b h = tt
 fresh_left p (k ∷ a) b h = (h.0, fresh_left p a b h.1)
 
-leads_more : (a b : List Link) (p q : ℕ) → leads a p ≡ At q → leads (a ++ b) p ≡ At q
+leads_more : (a b : List Link) (p q : ℕ) → leads a p ≡ Some q → leads (a ++ b) p ≡ Some q
 unfolding leads
 leads_more [] b p q e = let z : ◌≡◌ {A = ℕ} 0 1 = cc in absurd (omega arith)
 leads_more (k ∷ a) b p q e = go (eqb k.at p) e (leads_more a b p q)
   where
-    go : (x : Bool) → pick x k.to (leads a p) ≡ At q → (leads a p ≡ At q → leads (a ++ b) p ≡ At q) → pick x k.to (leads (a ++ b) p) ≡ At q
+    go : (x : Bool) → pick x k.to (leads a p) ≡ Some q → (leads a p ≡ Some q → leads (a ++ b) p ≡ Some q) → pick x k.to (leads (a ++ b) p) ≡ Some q
     go true h ih = h
     go false h ih = ih h
 
-standing_keeps : (passed ks : List Link) (p q : ℕ) → leads passed p ≡ At q → leads (standing passed ks) p ≡ At q
+standing_keeps : (passed ks : List Link) (p q : ℕ) → leads passed p ≡ Some q → leads (standing passed ks) p ≡ Some q
 unfolding standing
 standing_keeps passed [] p q e = e
 standing_keeps passed (k ∷ ks) p q e =
     go (eqb (link_reason (passed ++ k ∷ ks) k.at k.to) 0) (standing_keeps (passed ++ k ∷ []) ks p q (leads_more passed (k ∷ []) p q e))
     (standing_keeps passed ks p q e)
   where
-    go : (x : Bool) → leads (standing (passed ++ k ∷ []) ks) p ≡ At q → leads (standing passed ks) p ≡ At q
-        → leads (pick x (standing (passed ++ k ∷ []) ks) (standing passed ks)) p ≡ At q
+    go : (x : Bool) → leads (standing (passed ++ k ∷ []) ks) p ≡ Some q → leads (standing passed ks) p ≡ Some q
+        → leads (pick x (standing (passed ++ k ∷ []) ks) (standing passed ks)) p ≡ Some q
     go true m n = m
     go false m n = n
 
-reason-found : (ks : List Link) (p : ℕ) (f : Found) → link_reason ks p f ≡ 0 → (q : ℕ) × (f ≡ At q)
+reason-found : (ks : List Link) (p : ℕ) (f : Option ℕ) → link_reason ks p f ≡ 0 → (q : ℕ) × (f ≡ Some q)
 unfolding link_reason
-reason-found ks p Nothing e = let z : ◌≡◌ {A = ℕ} 4 0 = e in absurd (omega arith)
-reason-found ks p (At q) e = (q, refl)
+reason-found ks p None e = let z : ◌≡◌ {A = ℕ} 4 0 = e in absurd (omega arith)
+reason-found ks p (Some q) e = (q, refl)
 
-stands_link : (passed ks : List Link) → Distinct (passed ++ ks) → (p : ℕ) (f : Found) → Has p f ks → reason_at (removed_links passed ks) p ≡ 0
-    → (q : ℕ) × (f ≡ At q) × (leads (standing passed ks) p ≡ At q)
+stands_link : (passed ks : List Link) → Distinct (passed ++ ks) → (p : ℕ) (f : Option ℕ) → Has p f ks → reason_at (removed_links passed ks) p ≡ 0
+    → (q : ℕ) × (f ≡ Some q) × (leads (standing passed ks) p ≡ Some q)
 unfolding standing removed_links reason_at
 stands_link passed [] d p f h e = elim h [ ]
 stands_link passed (k ∷ ks) d p f h e =
@@ -105,14 +104,14 @@ stands_link passed (k ∷ ks) d p f h e =
         → reason_at
         (pick x (removed_links (passed ++ k ∷ []) ks) (record { at = k.at; reason = link_reason (passed ++ k ∷ ks) k.at k.to } ∷ removed_links passed ks))
         p ≡ 0
-        → (Distinct ((passed ++ k ∷ []) ++ ks) → (p : ℕ) (f : Found) → Has p f ks → reason_at (removed_links (passed ++ k ∷ []) ks) p ≡ 0
-        → (q : ℕ) × (f ≡ At q) × (leads (standing (passed ++ k ∷ []) ks) p ≡ At q))
-        → (Distinct (passed ++ ks) → (p : ℕ) (f : Found) → Has p f ks → reason_at (removed_links passed ks) p ≡ 0
-        → (q : ℕ) × (f ≡ At q) × (leads (standing passed ks) p ≡ At q))
-        → (q : ℕ) × (f ≡ At q) × (leads (pick x (standing (passed ++ k ∷ []) ks) (standing passed ks)) p ≡ At q)
+        → (Distinct ((passed ++ k ∷ []) ++ ks) → (p : ℕ) (f : Option ℕ) → Has p f ks → reason_at (removed_links (passed ++ k ∷ []) ks) p ≡ 0
+        → (q : ℕ) × (f ≡ Some q) × (leads (standing (passed ++ k ∷ []) ks) p ≡ Some q))
+        → (Distinct (passed ++ ks) → (p : ℕ) (f : Option ℕ) → Has p f ks → reason_at (removed_links passed ks) p ≡ 0
+        → (q : ℕ) × (f ≡ Some q) × (leads (standing passed ks) p ≡ Some q))
+        → (q : ℕ) × (f ≡ Some q) × (leads (pick x (standing (passed ++ k ∷ []) ks) (standing passed ks)) p ≡ Some q)
     go true s (inl w) e with-k without-k =
         let t = reason-found (passed ++ k ∷ ks) k.at k.to (eqb-true _ _ s) in
-        let here : leads (passed ++ k ∷ []) k.at ≡ At t.0 = leads_own k.at passed k [] refl own ∙ t.1 in
+        let here : leads (passed ++ k ∷ []) k.at ≡ Some t.0 = leads_own k.at passed k [] refl own ∙ t.1 in
         (t.0, sym w.1 ∙ t.1, rw (← w.0) (standing_keeps (passed ++ k ∷ []) ks k.at t.0 here))
     go true s (inr w) e with-k without-k = with-k (rw (append_assoc passed (k ∷ []) ks) d) p f w e
     go false s (inl w) e with-k without-k = absurd (eqb-false _ _ s (rw (eq-eqb k.at p w.0) at e))
@@ -128,7 +127,7 @@ module _ (among : List Line) where
   Links ks [] = Unit {0}
   Links ks (l ∷ ls) = ((name : List ℕ) → line_link l.text ≡ link_to name → Has l.start (find name among) ks) × Links ks ls
 
-  has_behind : (p a : ℕ) (f : Found) (v : Verdict) (ks : List Link) → Has p f ks → Has p f (with_link among a v ks)
+  has_behind : (p a : ℕ) (f : Option ℕ) (v : Verdict) (ks : List Link) → Has p f ks → Has p f (with_link among a v ks)
   unfolding with_link
   has_behind p a f malformed_line ks h = h
   has_behind p a f no_link ks h = h
@@ -138,7 +137,7 @@ module _ (among : List Line) where
   unfolding with_link
   has_here a v name ks e = rw e (inl (refl, refl))
 
-  links_more : (ls : List Line) (ks js : List Link) → ((p : ℕ) (f : Found) → Has p f ks → Has p f js) → Links ks ls → Links js ls
+  links_more : (ls : List Line) (ks js : List Link) → ((p : ℕ) (f : Option ℕ) → Has p f ks → Has p f js) → Links ks ls → Links js ls
   links_more [] ks js w h = tt
   links_more (l ∷ ls) ks js w h = ((λ name e. w l.start (find name among) (h.0 name e)), links_more ls ks js w h.1)
 
@@ -246,7 +245,7 @@ in_one a (d ∷ ds) (m ∷ ms) p h q r (inr i) (inr j) = in_one (suc m.start) ds
 module _ (removed : List Removed) where
   -- a name finds the same pair in both
   find-same : (name : List ℕ) (ds ms : List Line) → Parallel removed ds ms
-      → ((find name ds ≡ Nothing) × (find name ms ≡ Nothing)) ⊎ ((p q : ℕ) × (find name ds ≡ At p) × (find name ms ≡ At q) × In p q ds ms)
+      → ((find name ds ≡ None) × (find name ms ≡ None)) ⊎ ((p q : ℕ) × (find name ds ≡ Some p) × (find name ms ≡ Some q) × In p q ds ms)
   unfolding find
   find-same name [] [] h = inl (refl, refl)
   find-same name [] (m ∷ []) h = inl (refl, rw h.0)
@@ -255,11 +254,11 @@ module _ (removed : List Removed) where
   find-same name (d ∷ ds) (m ∷ ms) h = go (is_ignored d.text) refl (has_name name d.text) refl (find-same name ds ms h.1)
     where
       go : (x : Bool) → is_ignored d.text ≡ x → (y : Bool) → has_name name d.text ≡ y
-          → ((find name ds ≡ Nothing) × (find name ms ≡ Nothing)) ⊎ ((p q : ℕ) × (find name ds ≡ At p) × (find name ms ≡ At q) × In p q ds ms)
-          → ((pick (both (not (is_ignored d.text)) (has_name name d.text)) (At d.start) (find name ds) ≡ Nothing)
-          × (pick (both (not (is_ignored m.text)) (has_name name m.text)) (At m.start) (find name ms) ≡ Nothing))
-          ⊎ ((p q : ℕ) × (pick (both (not (is_ignored d.text)) (has_name name d.text)) (At d.start) (find name ds) ≡ At p)
-          × (pick (both (not (is_ignored m.text)) (has_name name m.text)) (At m.start) (find name ms) ≡ At q) × In p q (d ∷ ds) (m ∷ ms))
+          → ((find name ds ≡ None) × (find name ms ≡ None)) ⊎ ((p q : ℕ) × (find name ds ≡ Some p) × (find name ms ≡ Some q) × In p q ds ms)
+          → ((pick (both (not (is_ignored d.text)) (has_name name d.text)) (Some d.start) (find name ds) ≡ None)
+          × (pick (both (not (is_ignored m.text)) (has_name name m.text)) (Some m.start) (find name ms) ≡ None))
+          ⊎ ((p q : ℕ) × (pick (both (not (is_ignored d.text)) (has_name name d.text)) (Some d.start) (find name ds) ≡ Some p)
+          × (pick (both (not (is_ignored m.text)) (has_name name m.text)) (Some m.start) (find name ms) ≡ Some q) × In p q (d ∷ ds) (m ∷ ms))
       go true e y f (inl w) = rw (← h.0.0, e) (inl w)
       go true e y f (inr w) = rw (← h.0.0, e) (inr (w.0, w.1, w.2, w.3, inr w.4))
       go false e true f w = rw (← h.0.0, e, (h.0.1 e).0 name, f) (inr (d.start, m.start, refl, refl, inl (refl, refl, refl)))
@@ -311,11 +310,11 @@ module _ (db : List ℕ) where
   -- of a pair: the mended line is not malformed, and its link is found, where the links that stand lead
   abbrev Good : ℕ → ℕ → Type 0
   Good p q = (verdict (line_at text q) ≡ malformed_line → ⊥)
-      × ((name : List ℕ) → verdict (line_at text q) ≡ link_to name → (r : ℕ) × (find name ds ≡ At r) × (leads stand p ≡ At r))
+      × ((name : List ℕ) → verdict (line_at text q) ≡ link_to name → (r : ℕ) × (find name ds ≡ Some r) × (leads stand p ≡ Some r))
 
   good-verdict : (p : ℕ) (v : Verdict) → (v ≡ malformed_line → ⊥) → ((name : List ℕ) → v ≡ link_to name → Has p (find name ds) links)
       → (stands (reason_at gone p) v ≡ malformed_line → ⊥)
-      × ((name : List ℕ) → stands (reason_at gone p) v ≡ link_to name → (r : ℕ) × (find name ds ≡ At r) × (leads stand p ≡ At r))
+      × ((name : List ℕ) → stands (reason_at gone p) v ≡ link_to name → (r : ℕ) × (find name ds ≡ Some r) × (leads stand p ≡ Some r))
   good-verdict p malformed_line n h = absurd (n refl)
   good-verdict p no_link n h = ((λ e. n e), λ name e. let z : ◌≡◌ {A = ℕ} 0 1 = cc in absurd (omega arith))
   good-verdict p (link_to l) n h = go (eqb (reason_at gone p) 0) refl
@@ -324,7 +323,7 @@ module _ (db : List ℕ) where
       same name e = cc
 
       go : (x : Bool) → eqb (reason_at gone p) 0 ≡ x → (pick x (link_to l) no_link ≡ malformed_line → ⊥)
-          × ((name : List ℕ) → pick x (link_to l) no_link ≡ link_to name → (r : ℕ) × (find name ds ≡ At r) × (leads stand p ≡ At r))
+          × ((name : List ℕ) → pick x (link_to l) no_link ≡ link_to name → (r : ℕ) × (find name ds ≡ Some r) × (leads stand p ≡ Some r))
       go true z = ((λ e. n e), λ name e. rw (← same name e) (stands_link [] links distinct p (find l ds) (h l refl) (unfold link_removals in eqb-true _ _ z)))
       go false z = ((λ e. let w : ◌≡◌ {A = ℕ} 0 1 = cc in omega arith), λ name e. let w : ◌≡◌ {A = ℕ} 0 1 = cc in absurd (omega arith))
 
@@ -350,45 +349,45 @@ module _ (db : List ℕ) where
 
   -- a link of the mended database leads to a pair, as the link that stands does
   leads_on : (p q : ℕ) → In p q ds ms → (name : List ℕ) → verdict (line_at text q) ≡ link_to name
-      → (r s : ℕ) × (find_line text name ≡ At s) × (leads stand p ≡ At r) × In r s ds ms
+      → (r s : ℕ) × (find_line text name ≡ Some s) × (leads stand p ≡ Some r) × In r s ds ms
   leads_on p q i name v =
       let g = (pairs_in Good ds ms p q good i).1 name v in
       go g (find-same gone name ds ms parallel)
     where
-      go : ((r : ℕ) × (find name ds ≡ At r) × (leads stand p ≡ At r))
-          → ((find name ds ≡ Nothing) × (find name ms ≡ Nothing)) ⊎ ((r s : ℕ) × (find name ds ≡ At r) × (find name ms ≡ At s) × In r s ds ms)
-          → (r s : ℕ) × (find_line text name ≡ At s) × (leads stand p ≡ At r) × In r s ds ms
-      go g (inl w) = let e : At g.0 ≡ Nothing = sym g.1 ∙ w.0 in let z : ◌≡◌ {A = ℕ} 0 1 = cc in absurd (omega arith)
+      go : ((r : ℕ) × (find name ds ≡ Some r) × (leads stand p ≡ Some r))
+          → ((find name ds ≡ None) × (find name ms ≡ None)) ⊎ ((r s : ℕ) × (find name ds ≡ Some r) × (find name ms ≡ Some s) × In r s ds ms)
+          → (r s : ℕ) × (find_line text name ≡ Some s) × (leads stand p ≡ Some r) × In r s ds ms
+      go g (inl w) = let e : Some g.0 ≡ None = sym g.1 ∙ w.0 in let z : ◌≡◌ {A = ℕ} 0 1 = cc in absurd (omega arith)
       go g (inr w) =
-          let e : At g.0 ≡ At w.0 = sym g.1 ∙ w.2 in
+          let e : Some g.0 ≡ Some w.0 = sym g.1 ∙ w.2 in
           (w.0, w.1, search_lines name ∙ w.3, g.2 ∙ e, w.4)
 
-  along_nothing : (n q : ℕ) → along text n Nothing ≡ At q → ⊥
+  along_nothing : (n q : ℕ) → along text n None ≡ Some q → ⊥
   unfolding along
   along_nothing zero q e = let z : ◌≡◌ {A = ℕ} 0 1 = cc in omega arith
   along_nothing (suc n) q e = let z : ◌≡◌ {A = ℕ} 0 1 = cc in omega arith
 
   -- along the mended database, and along the links that stand
-  along-back : (h k : ℕ) → In h k ds ms → (n p q : ℕ) → In p q ds ms → along text n (At q) ≡ At k → comes_back stand (suc n) h (At p) ≡ true
+  along-back : (h k : ℕ) → In h k ds ms → (n p q : ℕ) → In p q ds ms → along text n (Some q) ≡ Some k → comes_back stand (suc n) h (Some p) ≡ true
   unfolding along target
   along-back h k j zero p q i e =
       let s : q ≡ k = cc in
       back_here h stand 0 p (in_one 0 ds ms p h q (rising_lines text) i (rw s j))
   along-back h k j (suc n) p q i e = go (verdict (line_at text q)) refl e (along-back h k j n)
     where
-      go : (v : Verdict) → verdict (line_at text q) ≡ v → along text n (target text v) ≡ At k
-          → ((p q : ℕ) → In p q ds ms → along text n (At q) ≡ At k → comes_back stand (suc n) h (At p) ≡ true) → comes_back stand (suc (suc n)) h (At p) ≡ true
+      go : (v : Verdict) → verdict (line_at text q) ≡ v → along text n (target text v) ≡ Some k
+          → ((p q : ℕ) → In p q ds ms → along text n (Some q) ≡ Some k → comes_back stand (suc n) h (Some p) ≡ true) → comes_back stand (suc (suc n)) h (Some p) ≡ true
       go malformed_line v w ih = absurd (along_nothing n k w)
       go no_link v w ih = absurd (along_nothing n k w)
       go (link_to name) v w ih =
           let o = leads_on p q i name v in
           back_on h stand (suc n) p (rw o.3 (ih o.0 o.1 o.4 (rw o.2 at w)))
 
-  no_ring : (p q : ℕ) → In p q ds ms → (n : ℕ) → along text (suc n) (At q) ≡ At q → ⊥
+  no_ring : (p q : ℕ) → In p q ds ms → (n : ℕ) → along text (suc n) (Some q) ≡ Some q → ⊥
   unfolding along target
   no_ring p q i n e = go (verdict (line_at text q)) refl e
     where
-      go : (v : Verdict) → verdict (line_at text q) ≡ v → along text n (target text v) ≡ At q → ⊥
+      go : (v : Verdict) → verdict (line_at text q) ≡ v → along text n (target text v) ≡ Some q → ⊥
       go malformed_line v w = along_nothing n q w
       go no_link v w = along_nothing n q w
       go (link_to name) v w =
@@ -407,9 +406,9 @@ module _ (db : List ℕ) where
     no_cycle = each_of gone _ ds ms parallel (pairs-map (λ p q. In p q ds ms) _ ds ms no_ring every_pair);
   }
     where
-      found : (p q : ℕ) → In p q ds ms → (name : List ℕ) → verdict (line_at text q) ≡ link_to name → find_line text name ≡ Nothing → ⊥
+      found : (p q : ℕ) → In p q ds ms → (name : List ℕ) → verdict (line_at text q) ≡ link_to name → find_line text name ≡ None → ⊥
       found p q i name v e =
           let o = leads_on p q i name v in
-          let z : At o.1 ≡ Nothing = sym o.2 ∙ e in
+          let z : Some o.1 ≡ None = sym o.2 ∙ e in
           let w : ◌≡◌ {A = ℕ} 0 1 = cc in
           omega arith

@@ -1,4 +1,5 @@
 -- Lent buffers of the stated sizes are never too small, and no command asks for more pads than stated. Assumes nothing.
+use Rattle.std.specs.Prelude.{Option, Some, None, Result, Ok, Err}
 use Prim.Native.Nat.{ℕ, zero, suc, ◌+◌, ◌*◌, ◌≤◌, ◌<◌}
 use mathlib.Core.Path.{◌≡◌, refl, sym, ap, subst, ◌∙◌}
 use mathlib.Core.Bool.{Bool, true, false}
@@ -62,13 +63,8 @@ use Rattle.spec.specs.Sending.{
 }
 use Rattle.spec.specs.Listing.{records, list_for, list_outcome, flat_text, flat_for, flat_outcome}
 use Rattle.spec.specs.declared.Location.{Location}
-use Rattle.spec.specs.declared.Located.{Located}
-use Rattle.spec.specs.declared.Located.TheVariants.{At, Nothing}
 use Rattle.spec.specs.declared.Refusal.{Refusal}
 use Rattle.spec.specs.declared.Refusal.TheVariants.{BadName, BadId, DatabaseTooLarge, UnknownName, LostLink, NoRoom, OutOfRange, BadEnds}
-use Rattle.spec.specs.declared.Answer.TheVariants.{Present, Refused as NotAnswered}
-use Rattle.spec.specs.declared.Written.{Written}
-use Rattle.spec.specs.declared.Written.TheVariants.{Count, Refused}
 use Rattle.laws.proofs.LookupSteps.{hit-size}
 use Rattle.laws.proofs.Tests.{pick_all, pick-told, both_true}
 use Rattle.laws.proofs.Buffers.{not_nine}
@@ -94,13 +90,13 @@ entered_early places malformed_line big more h = omega arith
 entered_early places no_link big more h = pick_all Early big (omega arith) tt
 entered_early places (link_to name) big more h = pick_all Early big (omega arith) h
 
-follow_early : (db : List (List ℕ)) (n : ℕ) (passed : List Location) (size : ℕ) (missing : Refusal) (found : Located) → refusal_number missing ≤ 8
+follow_early : (db : List (List ℕ)) (n : ℕ) (passed : List Location) (size : ℕ) (missing : Refusal) (found : Option Location) → refusal_number missing ≤ 8
     → Early (follow db n passed size missing found)
 unfolding follow
-follow_early db zero passed size missing Nothing h = h
-follow_early db zero passed size missing (At p) h = pick_all Early (visited p passed) (omega arith) (omega arith)
-follow_early db (suc n) passed size missing Nothing h = h
-follow_early db (suc n) passed size missing (At p) h =
+follow_early db zero passed size missing None h = h
+follow_early db zero passed size missing (Some p) h = pick_all Early (visited p passed) (omega arith) (omega arith)
+follow_early db (suc n) passed size missing None h = h
+follow_early db (suc n) passed size missing (Some p) h =
     let total = size + line_size (line_of db p) in
     let said = verdict (line_of db p) in
     pick_all Early (visited p passed) (omega arith)
@@ -144,14 +140,14 @@ asked_early db name id =
 
 -- ---- what fits is written
 
-put-fits : (bytes : List ℕ) (n : ℕ) (buffer : List ℕ) → length bytes ≤ length buffer → (put bytes n buffer).answer ≡ Count n
+put-fits : (bytes : List ℕ) (n : ℕ) (buffer : List ℕ) → length bytes ≤ length buffer → (put bytes n buffer).answer ≡ Ok n
 unfolding put
 put-fits bytes n buffer h = rw (le-leb (length bytes) (length buffer) h)
 
-count_room : (w : Written) (n : ℕ) → w ≡ Count n → HasRoom w
-count_room w n e h = let z : ◌≡◌ {A = ℕ} 0 1 = let f : Count n ≡ Refused NoRoom = sym e ∙ h in cc in omega arith
+count_room : (w : Result ℕ Refusal) (n : ℕ) → w ≡ Ok n → HasRoom w
+count_room w n e h = let z : ◌≡◌ {A = ℕ} 0 1 = let f : Ok n ≡ Err NoRoom = sym e ∙ h in cc in omega arith
 
-refused-room : (r : Refusal) → (r ≡ NoRoom → ⊥) → HasRoom (Refused r)
+refused-room : (r : Refusal) → (r ≡ NoRoom → ⊥) → HasRoom (Err r)
 refused-room r h e = h (let f : r ≡ NoRoom = cc in f)
 
 list-room : (db : Files) (name buffer : List ℕ) → 65520 ≤ length buffer → HasRoom (list_outcome db name buffer).answer
@@ -267,7 +263,7 @@ string-room db name id buffer h = go (terminal_for db name id) refl (asked_early
             let bytes = bytes_of (reading t) in
             let fits = (sound db name names fs (asked-accepted db name id names fs e)).fits in
             let w = put-fits bytes (length bytes) buffer (omega (arith, bytes-short t, hit-size id 3 fs t l, fits, h)) in
-            let z : ◌≡◌ {A = ℕ} 0 1 = let f : Present (length bytes) ≡ NotAnswered NoRoom = sym (ap presented w) ∙ q in cc in
+            let z : ◌≡◌ {A = ℕ} 0 1 = let f : (Ok (Some (length bytes))) ≡ Err NoRoom = sym (ap presented w) ∙ q in cc in
             omega arith
 
 -- ---- the most pads

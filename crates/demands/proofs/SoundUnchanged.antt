@@ -1,5 +1,6 @@
 -- A sound database comes back unchanged, with no records.
 -- Assumes nothing.
+use Rattle.std.specs.Prelude.{Option, Some, None}
 use Prim.Native.Nat.{ℕ, zero, suc, ◌+◌}
 use mathlib.Core.Path.{◌≡◌, refl, ◌∙◌, ap, sym}
 use mathlib.Core.Bool.{Bool, true, false, not}
@@ -31,8 +32,6 @@ use Rattle.spec.specs.Fields.{
   verdict,
 }
 use Rattle.laws.proofs.Judging.{judge_nil, judge-malformed, judge-ignored, judge_entry, judge-link, judge-after, verdict-colon, verdict-none}
-use Rattle.spec.specs.declared.Found.{Found}
-use Rattle.spec.specs.declared.Found.TheVariants.{At, Nothing}
 use Rattle.spec.specs.Repair.{
   lines_of,
   is_dropped,
@@ -200,17 +199,17 @@ module _ (db : List ℕ) (sound : Sound db) where
   ls = lines_of db
 
   -- where the link of a line leads in document 01's walk
-  abbrev onward : ℕ → Found
+  abbrev onward : ℕ → Option ℕ
   onward p = target db (verdict (line_at db p))
 
   -- the links of the third pass lead there, and are found, and do not come back
   abbrev Fine : List Link → Type 0
   Fine [] = Unit {0}
-  Fine (k ∷ ks) = ((k.to ≡ onward k.at) × (k.to ≡ Nothing → ⊥) × ((n : ℕ) → along db (suc n) (At k.at) ≡ At k.at → ⊥)) × Fine ks
+  Fine (k ∷ ks) = ((k.to ≡ onward k.at) × (k.to ≡ None → ⊥) × ((n : ℕ) → along db (suc n) (Some k.at) ≡ Some k.at → ⊥)) × Fine ks
 
   fine_with : (l : Line) (ks : List Link) → (is_ignored l.text ≡ false → (line_link l.text ≡ verdict (line_at db l.start))
-      × ((name : List ℕ) → verdict (line_at db l.start) ≡ link_to name → find_line db name ≡ Nothing → ⊥)
-      × ((n : ℕ) → along db (suc n) (At l.start) ≡ At l.start → ⊥))
+      × ((name : List ℕ) → verdict (line_at db l.start) ≡ link_to name → find_line db name ≡ None → ⊥)
+      × ((n : ℕ) → along db (suc n) (Some l.start) ≡ Some l.start → ⊥))
       → (v : Verdict) → line_link l.text ≡ v → Fine ks → Fine (with_link ls l.start v ks)
   unfolding with_link
   fine_with l ks h malformed_line e f = f
@@ -225,60 +224,60 @@ module _ (db : List ℕ) (sound : Sound db) where
           ((searched db name ∙ sym (target_is db l.start name v), (λ q. w.1 name v (sym (searched db name) ∙ q)), w.2), f)
 
   fine_links : (es : List Line) → EachText db es → Plain es
-      → EachDescription (λ p. (name : List ℕ) → verdict (line_at db p) ≡ link_to name → find_line db name ≡ Nothing → ⊥) es
-      → EachDescription (λ p. (n : ℕ) → along db (suc n) (At p) ≡ At p → ⊥) es → Fine (links_among ls es)
+      → EachDescription (λ p. (name : List ℕ) → verdict (line_at db p) ≡ link_to name → find_line db name ≡ None → ⊥) es
+      → EachDescription (λ p. (n : ℕ) → along db (suc n) (Some p) ≡ Some p → ⊥) es → Fine (links_among ls es)
   unfolding links_among
   fine_links [] t p a c = tt
   fine_links (l ∷ es) t p a c = fine_with l (links_among ls es) here (line_link l.text) refl (fine_links es t.1 p.1 a.1 c.1)
     where
       here : is_ignored l.text ≡ false → (line_link l.text ≡ verdict (line_at db l.start))
-          × ((name : List ℕ) → verdict (line_at db l.start) ≡ link_to name → find_line db name ≡ Nothing → ⊥)
-          × ((n : ℕ) → along db (suc n) (At l.start) ≡ At l.start → ⊥)
+          × ((name : List ℕ) → verdict (line_at db l.start) ≡ link_to name → find_line db name ≡ None → ⊥)
+          × ((n : ℕ) → along db (suc n) (Some l.start) ≡ Some l.start → ⊥)
       here i = (link-plain l.text i ∙ (clean l.text (p.0 i)).1 ∙ ap verdict t.0, a.0 i, c.0 i)
 
-  leads-target : (ks : List Link) → Fine ks → (p q : ℕ) → leads ks p ≡ At q → onward p ≡ At q
+  leads-target : (ks : List Link) → Fine ks → (p q : ℕ) → leads ks p ≡ Some q → onward p ≡ Some q
   unfolding leads
   leads-target [] f p q e = let z : ◌≡◌ {A = ℕ} 0 1 = cc in absurd (omega arith)
   leads-target (k ∷ ks) f p q e = go (eqb k.at p) refl e (leads-target ks f.1 p q)
     where
-      go : (x : Bool) → eqb k.at p ≡ x → pick x k.to (leads ks p) ≡ At q → (leads ks p ≡ At q → onward p ≡ At q) → onward p ≡ At q
+      go : (x : Bool) → eqb k.at p ≡ x → pick x k.to (leads ks p) ≡ Some q → (leads ks p ≡ Some q → onward p ≡ Some q) → onward p ≡ Some q
       go true s w ih = rw (← eqb-true k.at p s) (sym f.0.0 ∙ w)
       go false s w ih = ih w
 
   -- links that come back are a cycle of the database
-  back-along : (ks : List Link) → Fine ks → (home n p : ℕ) → comes_back ks n home (At p) ≡ true → (m : ℕ) × (along db m (At p) ≡ At home)
+  back-along : (ks : List Link) → Fine ks → (home n p : ℕ) → comes_back ks n home (Some p) ≡ true → (m : ℕ) × (along db m (Some p) ≡ Some home)
   unfolding comes_back along
   back-along ks f home zero p e = clash (sym e)
   back-along ks f home (suc n) p e = go (eqb p home) refl e (back-along ks f home n)
     where
-      on : (g : Found) → leads ks p ≡ g → comes_back ks n home g ≡ true → ((q : ℕ) → comes_back ks n home (At q) ≡ true → (m : ℕ) × (along db m (At q) ≡ At home))
-          → (m : ℕ) × (along db m (At p) ≡ At home)
-      on Nothing s w ih = lost n w
+      on : (g : Option ℕ) → leads ks p ≡ g → comes_back ks n home g ≡ true → ((q : ℕ) → comes_back ks n home (Some q) ≡ true → (m : ℕ) × (along db m (Some q) ≡ Some home))
+          → (m : ℕ) × (along db m (Some p) ≡ Some home)
+      on None s w ih = lost n w
         where
-          lost : (n : ℕ) → comes_back ks n home Nothing ≡ true → (m : ℕ) × (along db m (At p) ≡ At home)
+          lost : (n : ℕ) → comes_back ks n home None ≡ true → (m : ℕ) × (along db m (Some p) ≡ Some home)
           lost zero w = clash (sym w)
           lost (suc n) w = clash (sym w)
-      on (At q) s w ih =
+      on (Some q) s w ih =
           let r = ih q w in
           (suc r.0, ap (along db r.0) (leads-target ks f p q s) ∙ r.1)
 
       go : (x : Bool) → eqb p home ≡ x → either x (comes_back ks n home (leads ks p)) ≡ true
-          → ((q : ℕ) → comes_back ks n home (At q) ≡ true → (m : ℕ) × (along db m (At q) ≡ At home))
-          → (m : ℕ) × (along db m (At p) ≡ At home)
-      go true s w ih = (0, ap At (eqb-true p home s))
+          → ((q : ℕ) → comes_back ks n home (Some q) ≡ true → (m : ℕ) × (along db m (Some q) ≡ Some home))
+          → (m : ℕ) × (along db m (Some p) ≡ Some home)
+      go true s w ih = (0, ap Some (eqb-true p home s))
       go false s w ih = on (leads ks p) refl w ih
 
   kept-reason : (ks : List Link) → Fine ks → (k : Link)
-      → (k.to ≡ onward k.at) × (k.to ≡ Nothing → ⊥) × ((n : ℕ) → along db (suc n) (At k.at) ≡ At k.at → ⊥)
+      → (k.to ≡ onward k.at) × (k.to ≡ None → ⊥) × ((n : ℕ) → along db (suc n) (Some k.at) ≡ Some k.at → ⊥)
       → link_reason ks k.at k.to ≡ 0
   unfolding link_reason along
   kept-reason ks f k h = go k.to refl
     where
-      go : (g : Found) → k.to ≡ g → link_reason ks k.at g ≡ 0
-      go Nothing e = absurd (h.1 e)
-      go (At p) e = cyclic (comes_back ks (length ks) k.at (At p)) refl
+      go : (g : Option ℕ) → k.to ≡ g → link_reason ks k.at g ≡ 0
+      go None e = absurd (h.1 e)
+      go (Some p) e = cyclic (comes_back ks (length ks) k.at (Some p)) refl
         where
-          cyclic : (x : Bool) → comes_back ks (length ks) k.at (At p) ≡ x → ◌≡◌ {A = ℕ} (pick x 5 0) 0
+          cyclic : (x : Bool) → comes_back ks (length ks) k.at (Some p) ≡ x → ◌≡◌ {A = ℕ} (pick x 5 0) 0
           cyclic true s =
               let r = back-along ks f k.at (length ks) p s in
               absurd (h.2 r.0 (ap (along db r.0) (sym h.0 ∙ e) ∙ r.1))

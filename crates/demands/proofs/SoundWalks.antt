@@ -1,5 +1,6 @@
 -- In a sound database no walk is refused with 5, 6 or 7.
 -- Assumes nothing.
+use Rattle.std.specs.Prelude.{Option, Some, None}
 use Prim.Native.Nat.{ℕ, zero, suc, ◌+◌, ◌≤◌}
 use mathlib.Core.Path.{◌≡◌, refl, ◌∙◌, ap}
 use mathlib.Core.Logic.{inl, inr}
@@ -17,8 +18,6 @@ use Rattle.spec.specs.Files.{alone}
 use Rattle.spec.specs.Chain.{refused}
 use Rattle.spec.specs.Questions.{terminal_of}
 use Rattle.spec.specs.Repair.{lines_of}
-use Rattle.spec.specs.declared.Found.{Found}
-use Rattle.spec.specs.declared.Found.TheVariants.{At, Nothing}
 use Rattle.spec.specs.declared.Refusal.{Refusal}
 use Rattle.spec.specs.declared.Refusal.TheVariants.{BadName, DatabaseTooLarge, UnknownName, LostLink, Malformed, Cycle, ChainTooLarge}
 use Rattle.demands.specs.OneFile.{PlaceChain, broken, chain, passed, target, reached, followed, terminal_at, terminal_before}
@@ -27,19 +26,19 @@ use Rattle.demands.proofs.OneFile.{terminal-alone}
 
 -- ---- what holds of each description holds of one that is found
 
-find_each : (P : ℕ → Type 0) (name : List ℕ) (ls : List Line) (p : ℕ) → EachDescription P ls → find name ls ≡ At p → P p
+find_each : (P : ℕ → Type 0) (name : List ℕ) (ls : List Line) (p : ℕ) → EachDescription P ls → find name ls ≡ Some p → P p
 unfolding find
 find_each P name [] p h e = let z : ◌≡◌ {A = ℕ} 0 1 = cc in absurd (omega arith)
 find_each P name (l ∷ ls) p h e = go (both (not (is_ignored l.text)) (has_name name l.text)) refl e (find_each P name ls p h.1)
   where
-    go : (x : Bool) → both (not (is_ignored l.text)) (has_name name l.text) ≡ x → pick x (At l.start) (find name ls) ≡ At p
-        → (find name ls ≡ At p → P p) → P p
+    go : (x : Bool) → both (not (is_ignored l.text)) (has_name name l.text) ≡ x → pick x (Some l.start) (find name ls) ≡ Some p
+        → (find name ls ≡ Some p → P p) → P p
     go true t q ih =
         let s : l.start ≡ p = cc in
         rw (← s) (h.0 (not_is_true _ (both_true _ _ t).0))
     go false t q ih = ih q
 
-pub found_each : (P : ℕ → Type 0) (db name : List ℕ) (p : ℕ) → EachDescription P (lines_of db) → find_line db name ≡ At p → P p
+pub found_each : (P : ℕ → Type 0) (db name : List ℕ) (p : ℕ) → EachDescription P (lines_of db) → find_line db name ≡ Some p → P p
 unfolding find_line lines_of
 found_each P db name p h e = find_each P name (lines_of db) p h e
 
@@ -64,74 +63,74 @@ terminal-chain db ps r e = let z : ◌≡◌ {A = ℕ} 0 1 = cc in omega arith
 -- ---- the walk
 
 module _ (db : List ℕ) (sound : Sound db) where
-  abbrev next : Found → Found
-  next Nothing = Nothing
-  next (At p) = target db (verdict (line_at db p))
+  abbrev next : Option ℕ → Option ℕ
+  next None = None
+  next (Some p) = target db (verdict (line_at db p))
 
   -- one link more
-  along_more : (n : ℕ) (f : Found) → along db (suc n) f ≡ next (along db n f)
+  along_more : (n : ℕ) (f : Option ℕ) → along db (suc n) f ≡ next (along db n f)
   unfolding along
-  along_more zero Nothing = refl
-  along_more zero (At p) = refl
-  along_more (suc n) Nothing = refl
-  along_more (suc n) (At p) = along_more n (target db (verdict (line_at db p)))
+  along_more zero None = refl
+  along_more zero (Some p) = refl
+  along_more (suc n) None = refl
+  along_more (suc n) (Some p) = along_more n (target db (verdict (line_at db p)))
 
-  along-none : (f : Found) → along db 0 f ≡ f
+  along-none : (f : Option ℕ) → along db 0 f ≡ f
   unfolding along
   along-none f = refl
 
   -- each line that was passed leads to what was found now
-  abbrev Lead : List ℕ → Found → Type 0
+  abbrev Lead : List ℕ → Option ℕ → Type 0
   Lead [] f = Unit {0}
-  Lead (q ∷ qs) f = ((n : ℕ) × (along db (suc n) (At q) ≡ f)) × Lead qs f
+  Lead (q ∷ qs) f = ((n : ℕ) × (along db (suc n) (Some q) ≡ f)) × Lead qs f
 
-  lead_on : (p : ℕ) (qs : List ℕ) → Lead qs (At p) → Lead (qs ++ p ∷ []) (next (At p))
-  lead_on p [] h = ((0, along_more 0 (At p) ∙ ap next (along-none (At p))), tt)
-  lead_on p (q ∷ qs) h = ((suc h.0.0, along_more (suc h.0.0) (At q) ∙ ap next h.0.1), lead_on p qs h.1)
+  lead_on : (p : ℕ) (qs : List ℕ) → Lead qs (Some p) → Lead (qs ++ p ∷ []) (next (Some p))
+  lead_on p [] h = ((0, along_more 0 (Some p) ∙ ap next (along-none (Some p))), tt)
+  lead_on p (q ∷ qs) h = ((suc h.0.0, along_more (suc h.0.0) (Some q) ∙ ap next h.0.1), lead_on p qs h.1)
 
   -- a line that was passed is not found again
-  new : (p : ℕ) (qs : List ℕ) → Lead qs (At p) → ((n : ℕ) → along db (suc n) (At p) ≡ At p → ⊥) → passed p qs ≡ false
+  new : (p : ℕ) (qs : List ℕ) → Lead qs (Some p) → ((n : ℕ) → along db (suc n) (Some p) ≡ Some p → ⊥) → passed p qs ≡ false
   unfolding passed
   new p [] h c = refl
   new p (q ∷ qs) h c = go (eqb p q) refl (new p qs h.1 c)
     where
       go : (x : Bool) → eqb p q ≡ x → passed p qs ≡ false → either x (passed p qs) ≡ false
-      go true e ih = absurd (c h.0.0 (ap (λ (q : ℕ). along db (suc h.0.0) (At q)) (eqb-true p q e) ∙ h.0.1))
+      go true e ih = absurd (c h.0.0 (ap (λ (q : ℕ). along db (suc h.0.0) (Some q)) (eqb-true p q e) ∙ h.0.1))
       go false e ih = ih
 
   abbrev Fine : ℕ → Type 0
   Fine p = (verdict (line_at db p) ≡ malformed_line → ⊥)
-      × ((name : List ℕ) → verdict (line_at db p) ≡ link_to name → find_line db name ≡ Nothing → ⊥)
-      × ((n : ℕ) → along db (suc n) (At p) ≡ At p → ⊥)
+      × ((name : List ℕ) → verdict (line_at db p) ≡ link_to name → find_line db name ≡ None → ⊥)
+      × ((n : ℕ) → along db (suc n) (Some p) ≡ Some p → ⊥)
 
-  fine : (name : List ℕ) (p : ℕ) → find_line db name ≡ At p → Fine p
+  fine : (name : List ℕ) (p : ℕ) → find_line db name ≡ Some p → Fine p
   fine name p e =
       (found_each _ db name p sound.well_formed e, found_each _ db name p sound.no_lost_link e, found_each _ db name p sound.no_cycle e)
 
   -- what a step looks for is there, or the walk has only begun; and it is a sound description
-  abbrev Ready : Refusal → Found → Type 0
-  Ready missing Nothing = Breaks missing → ⊥
-  Ready missing (At p) = Fine p
+  abbrev Ready : Refusal → Option ℕ → Type 0
+  Ready missing None = Breaks missing → ⊥
+  Ready missing (Some p) = Fine p
 
-  ready : (name : List ℕ) (f : Found) → find_line db name ≡ f → (f ≡ Nothing → ⊥) → Ready LostLink f
-  ready name Nothing e n = absurd (n refl)
-  ready name (At p) e n = fine name p e
+  ready : (name : List ℕ) (f : Option ℕ) → find_line db name ≡ f → (f ≡ None → ⊥) → Ready LostLink f
+  ready name None e n = absurd (n refl)
+  ready name (Some p) e n = fine name p e
 
-  no_break : (room : ℕ) (qs : List ℕ) (size : ℕ) (missing : Refusal) (f : Found) → Lead qs f → Ready missing f
+  no_break : (room : ℕ) (qs : List ℕ) (size : ℕ) (missing : Refusal) (f : Option ℕ) → Lead qs f → Ready missing f
       → (r : Refusal) → followed db room qs size missing f ≡ broken r → Breaks r → ⊥
   unfolding followed reached target
-  no_break zero qs size missing Nothing l h r e b = let s : missing ≡ r = cc in h (rw s b)
-  no_break zero qs size missing (At p) l h r e b =
+  no_break zero qs size missing None l h r e b = let s : missing ≡ r = cc in h (rw s b)
+  no_break zero qs size missing (Some p) l h r e b =
       let full : broken ChainTooLarge ≡ broken r = rw (new p qs l h.2) at e in
       not_large r full b
-  no_break (suc room) qs size missing Nothing l h r e b = let s : missing ≡ r = cc in h (rw s b)
-  no_break (suc room) qs size missing (At p) l h r e b =
+  no_break (suc room) qs size missing None l h r e b = let s : missing ≡ r = cc in h (rw s b)
+  no_break (suc room) qs size missing (Some p) l h r e b =
       let total = size + line_size (line_at db p) in
       go (verdict (line_at db p)) refl (ltb 16384 total) (no_break room (qs ++ p ∷ []) total LostLink) (lead_on p qs l)
       (rw (new p qs l h.2) at e)
     where
       go : (v : Verdict) → verdict (line_at db p) ≡ v → (big : Bool)
-          → ((f : Found) → Lead (qs ++ p ∷ []) f → Ready LostLink f → (r : Refusal)
+          → ((f : Option ℕ) → Lead (qs ++ p ∷ []) f → Ready LostLink f → (r : Refusal)
           → followed db room (qs ++ p ∷ []) (size + line_size (line_at db p)) LostLink f ≡ broken r → Breaks r → ⊥)
           → Lead (qs ++ p ∷ []) (target db (verdict (line_at db p)))
           → reached (qs ++ p ∷ []) (verdict (line_at db p)) big
@@ -148,9 +147,9 @@ module _ (db : List ℕ) (sound : Sound db) where
   walk-sound : (name : List ℕ) (r : Refusal) → walk name ≡ broken r → Breaks r → ⊥
   walk-sound name r e b = no_break 32 [] 0 UnknownName (find_line db name) tt (first (find_line db name) refl) r e b
     where
-      first : (f : Found) → find_line db name ≡ f → Ready UnknownName f
-      first Nothing s = outside UnknownName UnknownName refl (λ k m. omega arith)
-      first (At p) s = fine name p s
+      first : (f : Option ℕ) → find_line db name ≡ f → Ready UnknownName f
+      first None s = outside UnknownName UnknownName refl (λ k m. omega arith)
+      first (Some p) s = fine name p s
 
   -- "NO NAME IS REFUSED WITH 5, 6 OR 7"
   pub terminal-sound : (name : List ℕ) (r : Refusal) → terminal_of (alone db) name ≡ refused r → Breaks r → ⊥

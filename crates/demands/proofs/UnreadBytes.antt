@@ -1,4 +1,5 @@
 -- Bytes after the last end are not read. Assumes nothing.
+use Rattle.std.specs.Prelude.{Option, Some, None, Result, Err}
 use Prim.Native.Nat.{ℕ, zero, suc, ◌+◌, ◌-◌, ◌/◌, ◌%◌, ◌≤◌, ◌<◌}
 use mathlib.Core.Path.{◌≡◌, refl, ◌∙◌, ap, sym}
 use mathlib.Core.Bool.{Bool, true, false}
@@ -18,19 +19,14 @@ use Rattle.spec.specs.Search.{all_names, compared, told, search_answer}
 use Rattle.spec.specs.Answers.{Outcome, keeping, put}
 use Rattle.spec.specs.Listing.{list_for, flat_for, list_outcome, flat_outcome}
 use Rattle.spec.specs.Batch.{batch_answers, batch_outcome}
-use Rattle.spec.specs.declared.Located.{Located}
-use Rattle.spec.specs.declared.Located.TheVariants.{At, Nothing}
 use Rattle.spec.specs.declared.Kind.TheVariants.{Flag, Number}
 use Rattle.spec.specs.declared.Refusal.{Refusal}
 use Rattle.spec.specs.declared.Refusal.TheVariants.{BadName, DatabaseTooLarge, PartialQuestion, BadEnds}
-use Rattle.spec.specs.declared.Searched.{Searched}
-use Rattle.spec.specs.declared.Searched.TheVariants.{Refused as NotSearched}
-use Rattle.spec.specs.declared.Written.{Written}
-use Rattle.spec.specs.declared.Written.TheVariants.{Refused as NotWritten}
-use Rattle.spec.specs.declared.Shown.{Shown}
-use Rattle.spec.specs.declared.Shown.TheVariants.{Refused as NotShown}
 use Rattle.laws.proofs.FileParts.{rises, good-rising, length-contents, located_in, located_extent}
 use Rattle.demands.specs.UnreadBytes.{last_end, Unread}
+use Rattle.spec.specs.declared.Location.{Location}
+use Rattle.spec.specs.declared.Part.{Part}
+use Rattle.spec.specs.declared.Tally.{Tally}
 
 -- ---- a window of bytes that agree up to its end
 
@@ -110,12 +106,12 @@ module _ (a b ends : List ℕ) (long : length a ≡ length b) (agree : take (las
   unfolding search_answer
   search-same name = rw (← good-same, large_same) (go (good_ends (files a ends)) refl)
     where
-      in_order : List (List ℕ) → Searched
-      in_order ns = pick (good_name name) (pick (too_large b) (NotSearched DatabaseTooLarge) (told (among name ns) (compared name ns))) (NotSearched BadName)
+      in_order : List (List ℕ) → Result Tally Refusal
+      in_order ns = pick (good_name name) (pick (too_large b) (Err DatabaseTooLarge) (told (among name ns) (compared name ns))) (Err BadName)
 
       go : (x : Bool) → good_ends (files a ends) ≡ x
-          → pick x (in_order (all_names (contents (files a ends)))) (NotSearched BadEnds)
-          ≡ pick x (in_order (all_names (contents (files b ends)))) (NotSearched BadEnds)
+          → pick x (in_order (all_names (contents (files a ends)))) (Err BadEnds)
+          ≡ pick x (in_order (all_names (contents (files b ends)))) (Err BadEnds)
       go true g = rw (contents-same g)
       go false g = refl
 
@@ -125,10 +121,10 @@ module _ (a b ends : List ℕ) (long : length a ≡ length b) (agree : take (las
   unfolding batch_outcome
   batch-same name questions buffer = rw (← good-same, large_same) (go (good_ends (files a ends)) refl)
     where
-      refusing : Refusal → Outcome Written
-      refusing r = keeping (NotWritten r) buffer
+      refusing : Refusal → Outcome (Result ℕ Refusal)
+      refusing r = keeping (Err r) buffer
 
-      in_order : Terminal → Outcome Written
+      in_order : Terminal → Outcome (Result ℕ Refusal)
       in_order t =
           pick (good_name name)
           (pick (too_large b) (refusing DatabaseTooLarge)
@@ -147,21 +143,21 @@ module _ (a b ends : List ℕ) (long : length a ≡ length b) (agree : take (las
   unfolding file_start
   start-same k = refl
 
-  shown-same : (x : Located) → good_ends (files a ends) ≡ true → shown (files a ends) x ≡ shown (files b ends) x
+  shown-same : (x : Option Location) → good_ends (files a ends) ≡ true → shown (files a ends) x ≡ shown (files b ends) x
   unfolding shown
-  shown-same (At l) g = rw (contents-same g, start-same l.file)
-  shown-same Nothing g = refl
+  shown-same (Some l) g = rw (contents-same g, start-same l.file)
+  shown-same None g = refl
 
   show-same : (name : List ℕ) → show_answer (files a ends) name ≡ show_answer (files b ends) name
   unfolding show_answer
   show-same name = rw (← good-same, large_same) (go (good_ends (files a ends)) refl)
     where
-      in_order : Shown → Shown
-      in_order s = pick (good_name name) (pick (too_large b) (NotShown DatabaseTooLarge) s) (NotShown BadName)
+      in_order : Result Part Refusal → Result Part Refusal
+      in_order s = pick (good_name name) (pick (too_large b) (Err DatabaseTooLarge) s) (Err BadName)
 
       go : (x : Bool) → good_ends (files a ends) ≡ x
-          → pick x (in_order (shown (files a ends) (find_from (contents (files a ends)) 0 name))) (NotShown BadEnds)
-          ≡ pick x (in_order (shown (files b ends) (find_from (contents (files b ends)) 0 name))) (NotShown BadEnds)
+          → pick x (in_order (shown (files a ends) (find_from (contents (files a ends)) 0 name))) (Err BadEnds)
+          ≡ pick x (in_order (shown (files b ends) (find_from (contents (files b ends)) 0 name))) (Err BadEnds)
       go true g = rw (shown-same (find_from (contents (files a ends)) 0 name) g, contents-same g)
       go false g = refl
 
@@ -170,18 +166,18 @@ module _ (a b ends : List ℕ) (long : length a ≡ length b) (agree : take (las
   unfolding show_answer shown
   bytes_same name = go (good_ends (files a ends)) refl (good_name name) (too_large a) (find_from (contents (files a ends)) 0 name) refl
     where
-      go : (x : Bool) → good_ends (files a ends) ≡ x → (y z : Bool) (f : Located) → find_from (contents (files a ends)) 0 name ≡ f
-          → shown_bytes a (pick x (pick y (pick z (NotShown DatabaseTooLarge) (shown (files a ends) f)) (NotShown BadName)) (NotShown BadEnds))
-          ≡ shown_bytes b (pick x (pick y (pick z (NotShown DatabaseTooLarge) (shown (files a ends) f)) (NotShown BadName)) (NotShown BadEnds))
+      go : (x : Bool) → good_ends (files a ends) ≡ x → (y z : Bool) (f : Option Location) → find_from (contents (files a ends)) 0 name ≡ f
+          → shown_bytes a (pick x (pick y (pick z (Err DatabaseTooLarge) (shown (files a ends) f)) (Err BadName)) (Err BadEnds))
+          ≡ shown_bytes b (pick x (pick y (pick z (Err DatabaseTooLarge) (shown (files a ends) f)) (Err BadName)) (Err BadEnds))
       go true g true true f e = refl
-      go true g true false (At l) e =
+      go true g true false (Some l) e =
           let x = located_extent (files a ends) name l g e in
           let i = located_in (contents (files a ends)) name 0 l e in
           let below = last_of l.file 0 (length a) ends (good-rising (files a ends) g) (omega (arith, i.0, length-contents (files a ends))) in
           let start = file_start (files a ends) l.file in
           let end = extent (file_at (contents (files a ends)) l.file) l.at in
           window a b (start + end - (start + l.at)) (start + l.at) (last_end ends) agree (omega (arith, x.0, x.1, below))
-      go true g true false Nothing e = refl
+      go true g true false None e = refl
       go true g false z f e = refl
       go false g y z f e = refl
 

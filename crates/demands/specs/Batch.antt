@@ -1,16 +1,13 @@
 -- Document 02, a batch of questions: "each answer must equal the same question put alone, given room".
-use Rattle.std.specs.Prelude.{ℕ, ◌≡◌, List, [], ◌∷◌, eqb, length}
+use Rattle.std.specs.Prelude.{ℕ, ◌≡◌, List, [], ◌∷◌, eqb, length, Option, Some, None, Result, Ok, Err}
 use Rattle.spec.specs.Choice.{pick}
 use Rattle.spec.specs.Files.{Files}
 use Rattle.spec.specs.Fields.{kind_of}
 use Rattle.spec.specs.Batch.{answer_bytes, batch_outcome}
-use Rattle.spec.specs.declared.Numbered.{Numbered}
-use Rattle.spec.specs.declared.Numbered.TheVariants.{Is, Nothing}
 use Rattle.spec.specs.declared.Refusal.TheVariants.{BadId}
-use Rattle.spec.specs.declared.Answer.{Answer}
-use Rattle.spec.specs.declared.Answer.TheVariants.{Refused}
-use Rattle.spec.specs.declared.Written.TheVariants.{Count}
 use Rattle.demands.specs.Demand3.{question, QuestionHasRoom, cut}
+use Rattle.spec.specs.declared.Refusal.{Refusal}
+use Rattle.spec.specs.declared.Kind.{Kind}
 
 -- The questions of a buffer.
 unfoldable pub questions : List ℕ → List (List ℕ)
@@ -21,16 +18,16 @@ questions (a ∷ b ∷ k ∷ []) = []
 questions (a ∷ b ∷ k ∷ z ∷ qs) = (a ∷ b ∷ k ∷ z ∷ []) ∷ questions qs
 
 -- The same question put alone: Flag, Number or String by its kind; "a bad id, kind or fourth byte is refused 2".
-abbrev pub of_kind : Numbered → Files → List ℕ → List ℕ → List ℕ → Answer
-of_kind (Is k) db name id lent = question k db name id lent
-of_kind Nothing db name id lent = Refused BadId
+abbrev pub of_kind : Option Kind → Files → List ℕ → List ℕ → List ℕ → Result (Option ℕ) Refusal
+of_kind (Some k) db name id lent = question k db name id lent
+of_kind None db name id lent = Err BadId
 
-unfoldable pub alone : Files → List ℕ → List ℕ → List ℕ → Answer
-alone db name [] lent = Refused BadId
-alone db name (a ∷ []) lent = Refused BadId
-alone db name (a ∷ b ∷ []) lent = Refused BadId
-alone db name (a ∷ b ∷ k ∷ []) lent = Refused BadId
-alone db name (a ∷ b ∷ k ∷ z ∷ l) lent = pick (eqb z 0) (of_kind (kind_of k) db name (a ∷ b ∷ []) lent) (Refused BadId)
+unfoldable pub alone : Files → List ℕ → List ℕ → List ℕ → Result (Option ℕ) Refusal
+alone db name [] lent = Err BadId
+alone db name (a ∷ []) lent = Err BadId
+alone db name (a ∷ b ∷ []) lent = Err BadId
+alone db name (a ∷ b ∷ k ∷ []) lent = Err BadId
+alone db name (a ∷ b ∷ k ∷ z ∷ l) lent = pick (eqb z 0) (of_kind (kind_of k) db name (a ∷ b ∷ []) lent) (Err BadId)
 
 -- Each record is the answer to its question put alone, with any lent buffer in which there is room for it; and there are as many.
 abbrev pub AnsweredAlone : Files → List ℕ → List (List ℕ) → List (List ℕ) → Type 0
@@ -42,5 +39,5 @@ AnsweredAlone db name (q ∷ qs) (r ∷ rs) =
 
 -- THE STATEMENT, of an accepted batch: as many answers as questions, each that of its question. Its proof is proofs/Batch.
 abbrev pub BatchAnswers : Type 0
-BatchAnswers = (db : Files) (name asked buffer : List ℕ) (n : ℕ) → (batch_outcome db name asked buffer).answer ≡ Count n
+BatchAnswers = (db : Files) (name asked buffer : List ℕ) (n : ℕ) → (batch_outcome db name asked buffer).answer ≡ Ok n
     → (n ≡ length (questions asked)) × AnsweredAlone db name (questions asked) (cut 8 n (batch_outcome db name asked buffer).buffer)

@@ -1,5 +1,5 @@
 -- DEMAND 3, in document 01's words ("Words of demand 3"): the listing, the questions and the one-line description agree.
-use Rattle.std.specs.Prelude.{ℕ, zero, suc, ◌+◌, ◌*◌, ◌≤◌, ◌≡◌, ◌↔◌, Bool, List, [], ◌∷◌, ◌++◌, map, eqb, length, take, drop, get_or, set}
+use Rattle.std.specs.Prelude.{ℕ, zero, suc, ◌+◌, ◌*◌, ◌≤◌, ◌≡◌, ◌↔◌, Bool, List, [], ◌∷◌, ◌++◌, map, eqb, length, take, drop, get_or, set, Option, Some, Result, Ok, Err}
 use Rattle.spec.specs.Choice.{pick, both}
 use Rattle.spec.specs.Lists.{same}
 use Rattle.spec.specs.Fields.{kind_number}
@@ -12,10 +12,7 @@ use Rattle.spec.specs.Listing.{records, list_outcome, flat_outcome}
 use Rattle.spec.specs.declared.Kind.{Kind}
 use Rattle.spec.specs.declared.Kind.TheVariants.{Flag, Number, String}
 use Rattle.spec.specs.declared.Refusal.TheVariants.{NoRoom}
-use Rattle.spec.specs.declared.Answer.{Answer}
-use Rattle.spec.specs.declared.Answer.TheVariants.{Present, Refused as NotAnswered}
-use Rattle.spec.specs.declared.Written.{Written}
-use Rattle.spec.specs.declared.Written.TheVariants.{Count, Refused}
+use Rattle.spec.specs.declared.Refusal.{Refusal}
 
 -- "The chain of a database and a name is accepted when none of refusals 1 and 3 to 8 applies to the two", "accepted there also means that
 -- 16 doesn't apply": there is a terminal, with these names and joined fields.
@@ -23,23 +20,23 @@ abbrev pub Accepted : Files → List ℕ → List ℕ → List Field → Type 0
 Accepted db name names fs = terminal_of db name ≡ terminal names fs
 
 -- "There is room for a call when 9 doesn't apply to it."
-abbrev pub HasRoom : Written → Type 0
-HasRoom w = w ≡ Refused NoRoom → ⊥
+abbrev pub HasRoom : Result ℕ Refusal → Type 0
+HasRoom w = w ≡ Err NoRoom → ⊥
 
 -- "A question is Flag, Number or String." Only String uses the lent buffer.
-abbrev pub question : Kind → Files → List ℕ → List ℕ → List ℕ → Answer
+abbrev pub question : Kind → Files → List ℕ → List ℕ → List ℕ → Result (Option ℕ) Refusal
 question Flag db name id lent = flag_answer db name id
 question Number db name id lent = number_answer db name id
 question String db name id lent = (string_outcome db name id lent).answer
 
-abbrev pub QuestionHasRoom : Answer → Type 0
-QuestionHasRoom a = a ≡ NotAnswered NoRoom → ⊥
+abbrev pub QuestionHasRoom : Result (Option ℕ) Refusal → Type 0
+QuestionHasRoom a = a ≡ Err NoRoom → ⊥
 
 -- ---- what a call wrote
 
-abbrev pub count : Written → ℕ
-count (Count n) = n
-count (Refused r) = 0
+abbrev pub count : Result ℕ Refusal → ℕ
+count (Ok n) = n
+count (Err r) = 0
 
 -- So many records of a size, cut from bytes.
 unfoldable pub cut : ℕ → ℕ → List ℕ → List (List ℕ)
@@ -47,12 +44,12 @@ cut size zero l = []
 cut size (suc n) l = take size l ∷ cut size n (drop size l)
 
 -- The records of a listing.
-unfoldable pub listed : Outcome Written → List (List ℕ)
+unfoldable pub listed : Outcome (Result ℕ Refusal) → List (List ℕ)
 listed o = cut 12 (count o.answer) o.buffer
 
 -- "The one-line description is Flat; it stands alone when the bytes that Flat wrote, and no others, are the database"; "the one-line
 -- description standing alone is a single file".
-unfoldable pub one_line : Outcome Written → List ℕ
+unfoldable pub one_line : Outcome (Result ℕ Refusal) → List ℕ
 one_line o = take (count o.answer) o.buffer
 
 -- ---- records
@@ -87,14 +84,14 @@ pub record Demand3 (db : Files) (name : List ℕ) (fs : List Field) : Type 0 whe
   -- the listing is the records of the winning fields in their order, the number reported is their number, and the rest of the buffer stays
   pub listing : (buffer : List ℕ) → HasRoom (list_outcome db name buffer).answer
       → list_outcome db name buffer ≡ record {
-        answer = Count (length (winning fs));
+        answer = Ok (length (winning fs));
         buffer = records (winning fs) ++ drop (length (records (winning fs)))
             buffer;
       }
   -- a name, kind and value are in the listing exactly once if and only if the question finds them
   pub found : (k : Kind) (id : List ℕ) (v : ℕ) (buffer lent : List ℕ) → HasRoom (list_outcome db name buffer).answer
       → QuestionHasRoom (question k db name id lent)
-      → (occurrences id (kind_number k) v (listed (list_outcome db name buffer)) ≡ 1) ↔ (question k db name id lent ≡ Present v)
+      → (occurrences id (kind_number k) v (listed (list_outcome db name buffer)) ≡ 1) ↔ (question k db name id lent ≡ (Ok (Some v)))
   -- a pair of name and kind is never there twice, whatever the values
   pub once : (k : Kind) (id buffer : List ℕ) → HasRoom (list_outcome db name buffer).answer → pairs id (kind_number k) (listed (list_outcome db name buffer)) ≤ 1
   -- Flat alone answers each question as the whole chain does, refusals and buffers included

@@ -1,6 +1,6 @@
 -- Ask 5: "With one file that fills the buffer every answer is as before, that tail and its room apart." What was before: document 01's walk
 -- over one database, where a line is known by its place alone, and its record of 8 bytes.
-use Rattle.std.specs.Prelude.{ℕ, zero, suc, ◌+◌, ◌/◌, ◌%◌, ◌≡◌, Bool, false, List, [], ◌∷◌, ◌++◌, map, eqb, ltb, length, take, drop}
+use Rattle.std.specs.Prelude.{ℕ, zero, suc, ◌+◌, ◌/◌, ◌%◌, ◌≡◌, Bool, false, List, [], ◌∷◌, ◌++◌, map, eqb, ltb, length, Option, Some, None, Result, Ok, Err}
 use Rattle.spec.specs.Choice.{pick, either}
 use Rattle.spec.specs.Refusals.{good_name, good_id, too_large}
 use Rattle.spec.specs.Lines.{find_line, line_at, extent}
@@ -29,16 +29,11 @@ use Rattle.spec.specs.Answers.{Outcome, keeping, put}
 use Rattle.spec.specs.Questions.{answer_for, string_for, show_answer, flag_answer, number_answer, string_outcome}
 use Rattle.spec.specs.Batch.{batch_answers, batch_outcome}
 use Rattle.spec.specs.Listing.{four_bytes, flat_for, list_outcome, flat_outcome}
-use Rattle.spec.specs.declared.Found.{Found}
-use Rattle.spec.specs.declared.Found.TheVariants.{At, Nothing}
 use Rattle.spec.specs.declared.Kind.TheVariants.{Flag, Number}
 use Rattle.spec.specs.declared.Refusal.{Refusal}
 use Rattle.spec.specs.declared.Refusal.TheVariants.{BadName, BadId, DatabaseTooLarge, UnknownName, LostLink, Malformed, Cycle, ChainTooLarge, PartialQuestion}
-use Rattle.spec.specs.declared.Written.{Written}
-use Rattle.spec.specs.declared.Written.TheVariants.{Refused}
-use Rattle.spec.specs.declared.Shown.{Shown}
-use Rattle.spec.specs.declared.Shown.TheVariants.{Part, Refused as NotShown}
 use Rattle.demands.specs.Demand3.{HasRoom, count, cut, listed}
+use Rattle.spec.specs.declared.Part.{Part}
 
 -- ---- the walk over one database
 
@@ -52,9 +47,9 @@ passed p [] = false
 passed p (q ∷ qs) = either (eqb p q) (passed p qs)
 
 -- "Links search again from the start."
-unfoldable pub target : List ℕ → Verdict → Found
-target db malformed_line = Nothing
-target db no_link = Nothing
+unfoldable pub target : List ℕ → Verdict → Option ℕ
+target db malformed_line = None
+target db no_link = None
 target db (link_to name) = find_line db name
 
 unfoldable pub reached : List ℕ → Verdict → Bool → PlaceChain → PlaceChain
@@ -62,11 +57,11 @@ reached places malformed_line tooBig more = broken Malformed
 reached places no_link tooBig more = pick tooBig (broken ChainTooLarge) (chain places)
 reached places (link_to name) tooBig more = pick tooBig (broken ChainTooLarge) more
 
-unfoldable pub followed : List ℕ → ℕ → List ℕ → ℕ → Refusal → Found → PlaceChain
-followed db zero seen size missing Nothing = broken missing
-followed db zero seen size missing (At p) = pick (passed p seen) (broken Cycle) (broken ChainTooLarge)
-followed db (suc room) seen size missing Nothing = broken missing
-followed db (suc room) seen size missing (At p) =
+unfoldable pub followed : List ℕ → ℕ → List ℕ → ℕ → Refusal → Option ℕ → PlaceChain
+followed db zero seen size missing None = broken missing
+followed db zero seen size missing (Some p) = pick (passed p seen) (broken Cycle) (broken ChainTooLarge)
+followed db (suc room) seen size missing None = broken missing
+followed db (suc room) seen size missing (Some p) =
     let total = size + line_size (line_at db p) in
     let said = verdict (line_at db p) in
     let more = followed db room (seen ++ p ∷ []) total LostLink (target db said) in
@@ -91,25 +86,25 @@ terminal_before db name =
     pick (good_name name) (pick (too_large db) (refused DatabaseTooLarge) (terminal_at db (followed db 32 [] 0 UnknownName (find_line db name)))) (refused BadName)
 
 -- A batch of questions: 1, 3, 15, then 9.
-unfoldable pub batch_before : List ℕ → List ℕ → List ℕ → List ℕ → Outcome Written
+unfoldable pub batch_before : List ℕ → List ℕ → List ℕ → List ℕ → Outcome (Result ℕ Refusal)
 batch_before db name questions buffer =
     let walked = terminal_at db (followed db 32 [] 0 UnknownName (find_line db name)) in
     pick (good_name name)
-    (pick (too_large db) (keeping (Refused DatabaseTooLarge) buffer)
+    (pick (too_large db) (keeping (Err DatabaseTooLarge) buffer)
     (pick (eqb (length questions % 4) 0)
     (put (batch_answers walked questions) (length questions / 4) buffer)
-    (keeping (Refused PartialQuestion) buffer)))
-    (keeping (Refused BadName) buffer)
+    (keeping (Err PartialQuestion) buffer)))
+    (keeping (Err BadName) buffer)
 
 unfoldable pub asked_before : List ℕ → List ℕ → List ℕ → Terminal
 asked_before db name id = pick (good_name name) (pick (good_id id) (terminal_before db name) (refused BadId)) (refused BadName)
 
-unfoldable pub shown_before : List ℕ → Found → Shown
-shown_before db (At p) = Part p (extent db p)
-shown_before db Nothing = NotShown UnknownName
+unfoldable pub shown_before : List ℕ → Option ℕ → Result Part Refusal
+shown_before db (Some p) = Ok (record { from = p; to = extent db p })
+shown_before db None = Err UnknownName
 
-unfoldable pub show_before : List ℕ → List ℕ → Shown
-show_before db name = pick (good_name name) (pick (too_large db) (NotShown DatabaseTooLarge) (shown_before db (find_line db name))) (NotShown BadName)
+unfoldable pub show_before : List ℕ → List ℕ → Result Part Refusal
+show_before db name = pick (good_name name) (pick (too_large db) (Err DatabaseTooLarge) (shown_before db (find_line db name))) (Err BadName)
 
 -- A record of 8 bytes.
 unfoldable pub record_before : ℕ → Reading → List ℕ
@@ -122,11 +117,11 @@ unfoldable pub records_before : List Field → List ℕ
 records_before [] = []
 records_before (f ∷ fs) = record_before f.place (reading f.text) ++ records_before fs
 
-unfoldable pub list_for_before : Terminal → List ℕ → Outcome Written
-list_for_before (refused r) buffer = keeping (Refused r) buffer
+unfoldable pub list_for_before : Terminal → List ℕ → Outcome (Result ℕ Refusal)
+list_for_before (refused r) buffer = keeping (Err r) buffer
 list_for_before (terminal names fs) buffer = put (records_before (winning fs)) (length (winning fs)) buffer
 
-unfoldable pub listed_before : Outcome Written → List (List ℕ)
+unfoldable pub listed_before : Outcome (Result ℕ Refusal) → List (List ℕ)
 listed_before o = cut 8 (count o.answer) o.buffer
 
 -- "The file number from 0 and three zeros at the end."

@@ -1,11 +1,10 @@
 -- Ask 13 on known bytes: edited buffers and their ends, files of which the premises hold, and files where one of them does not.
-use Rattle.std.specs.Prelude.{ℕ, ◌≡◌, List, [], ◌∷◌, map, replicate}
+use Rattle.std.specs.Prelude.{ℕ, ◌≡◌, List, [], ◌∷◌, map, replicate, Some, None, Ok}
 use Prim.Native.String.{String as Chars}
 use Rattle.spec.specs.Calls.{ascii}
 use Rattle.spec.specs.Files.{Files, files}
 use Rattle.spec.specs.Questions.{flag_answer}
 use Rattle.spec.specs.Listing.{flat_outcome}
-use Rattle.spec.specs.declared.Answer.TheVariants.{Present, Absent}
 use Rattle.demands.specs.Pasting.{flat_fields, edited, Pasting}
 
 -- The bytes and ends of a buffer, the file and the place of one of its lines, the name that it links to; and the edited buffer.
@@ -63,5 +62,5 @@ two_files = files (ascii "p:am:\nn:tc=p:\np:co:\n") (6 ∷ 20 ∷ [])
 -- the first one's Flat is pasted.
 abbrev pub Misled : Type 0
 Misled =
-    (flag_answer two_files (ascii "n") (ascii "co") ≡ Present 1)
-    × (flag_answer (edited (flat_fields (flat_outcome two_files (ascii "p") lent)) (record { file = 1; at = 0 }) two_files) (ascii "n") (ascii "co") ≡ Absent)
+    (flag_answer two_files (ascii "n") (ascii "co") ≡ (Ok (Some 1)))
+    × (flag_answer (edited (flat_fields (flat_outcome two_files (ascii "p") lent)) (record { file = 1; at = 0 }) two_files) (ascii "n") (ascii "co") ≡ (Ok None))

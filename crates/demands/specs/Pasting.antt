@@ -1,6 +1,6 @@
 -- ASK 13, "Pasting a parent in place": in any description of an accepted chain the fields of the linked line's Flat are put in place of the
 -- link, and every question about the asked name has the same answer.
-use Rattle.std.specs.Prelude.{ℕ, ◌+◌, ◌-◌, ◌≡◌, false, List, [], ◌∷◌, ◌++◌, map, length, take, drop}
+use Rattle.std.specs.Prelude.{ℕ, ◌+◌, ◌-◌, ◌≡◌, false, List, [], ◌∷◌, ◌++◌, map, length, take, drop, Result}
 use Rattle.spec.specs.Choice.{pick}
 use Rattle.spec.specs.Refusals.{too_large}
 use Rattle.spec.specs.Lines.{line_at}
@@ -13,8 +13,8 @@ use Rattle.spec.specs.Listing.{list_outcome, flat_outcome}
 use Rattle.spec.specs.Batch.{batch_outcome}
 use Rattle.spec.specs.Repair.{own_bytes, is_link}
 use Rattle.spec.specs.declared.Location.{Location}
-use Rattle.spec.specs.declared.Written.{Written}
 use Rattle.demands.specs.Demand3.{Accepted, HasRoom, listed, one_line, at_place_zero}
+use Rattle.spec.specs.declared.Refusal.{Refusal}
 
 -- ---- the edit
 
@@ -46,7 +46,7 @@ edited parent l db =
     files (replaced (file_start db l.file + l.at) old new db.bytes) (moved_ends l.file old (length new) db.ends)
 
 -- The fields of a one-line description, as they stand in what Flat wrote.
-unfoldable pub flat_fields : Outcome Written → List (List ℕ)
+unfoldable pub flat_fields : Outcome (Result ℕ Refusal) → List (List ℕ)
 flat_fields o = fields_of (line_at (one_line o) 0)
 
 -- ---- the statement

@@ -1,5 +1,5 @@
 -- Ask 6: the search that counts, beside Show; and the names that it counts, in the request's words.
-use Rattle.std.specs.Prelude.{ℕ, ◌+◌, ◌≤◌, ◌≡◌, false, ◌⊎◌, List, [], ◌∷◌, ◌++◌, eqb, length}
+use Rattle.std.specs.Prelude.{ℕ, ◌+◌, ◌≤◌, ◌≡◌, Bool, true, false, ◌⊎◌, List, [], ◌∷◌, ◌++◌, eqb, length, Result, Ok, Err}
 use Rattle.spec.specs.Choice.{pick}
 use Rattle.spec.specs.Lists.{among}
 use Rattle.spec.specs.Refusals.{refusal_number}
@@ -7,17 +7,20 @@ use Rattle.spec.specs.Files.{Files}
 use Rattle.spec.specs.Questions.{show_answer}
 use Rattle.spec.specs.Search.{compared, search_answer}
 use Rattle.spec.specs.declared.Refusal.TheVariants.{UnknownName}
-use Rattle.spec.specs.declared.Searched.{Searched}
-use Rattle.spec.specs.declared.Searched.TheVariants.{Found, Missing, Refused}
-use Rattle.spec.specs.declared.Shown.{Shown}
-use Rattle.spec.specs.declared.Shown.TheVariants.{Part, Refused as NotShown}
+use Rattle.spec.specs.declared.Refusal.{Refusal}
+use Rattle.spec.specs.declared.Part.{Part}
+use Rattle.spec.specs.declared.Tally.{Tally}
+
+-- What Show answers by whether a name is found.
+abbrev pub ShownIf : Result Part Refusal → Bool → Type 0
+ShownIf shown true = (part : Part) × (shown ≡ Ok part)
+ShownIf shown false = shown ≡ Err UnknownName
 
 -- What Show answers where the search that counts answers so. "It refuses only 16, 1 and 3", as Show does; where Show refuses with 4, a name
 -- is missing.
-abbrev pub ShownWhere : Shown → Searched → Type 0
-ShownWhere shown (Found n) = (from : ℕ) × (to : ℕ) × (shown ≡ Part from to)
-ShownWhere shown (Missing n) = shown ≡ NotShown UnknownName
-ShownWhere shown (Refused r) = (shown ≡ NotShown r) × ((refusal_number r ≡ 16) ⊎ ((refusal_number r ≡ 1) ⊎ (refusal_number r ≡ 3)))
+abbrev pub ShownWhere : Result Part Refusal → Result Tally Refusal → Type 0
+ShownWhere shown (Ok t) = ShownIf shown t.found
+ShownWhere shown (Err r) = (shown ≡ Err r) × ((refusal_number r ≡ 16) ⊎ ((refusal_number r ≡ 1) ⊎ (refusal_number r ≡ 3)))
 
 -- How many of the names have this length.
 unfoldable pub of_length : ℕ → List (List ℕ) → ℕ
@@ -33,5 +36,4 @@ pub record SearchCounts : Type 0 where
   -- "or all if none is"
   pub all_others : (name : List ℕ) (names : List (List ℕ)) → among name names ≡ false → compared name names ≡ of_length (length name) names
   -- a count is at most the bytes and the files
-  pub bounded : (db : Files) (name : List ℕ) (n : ℕ) → (search_answer db name ≡ Found n) ⊎ (search_answer db name ≡ Missing n)
-      → n ≤ length db.bytes + length db.ends
+  pub bounded : (db : Files) (name : List ℕ) (t : Tally) → search_answer db name ≡ Ok t → t.compared ≤ length db.bytes + length db.ends

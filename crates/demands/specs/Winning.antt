@@ -1,6 +1,6 @@
 -- "Where the answer is present, that first field is the winning field of the pair of name and kind, and the pair is live; no other field
 -- wins, and a cancel never does": the winning fields are those that the lookup comes to.
-use Rattle.std.specs.Prelude.{ℕ, ◌≡◌, Bool, false, not, List, [], ◌∷◌, ◌++◌, eqb}
+use Rattle.std.specs.Prelude.{◌≡◌, Bool, false, not, List, [], ◌∷◌, ◌++◌, eqb}
 use Rattle.spec.specs.Choice.{pick, both}
 use Rattle.spec.specs.Fields.{Reading, malformed, ignored, link, capability, reading, content_kind}
 use Rattle.spec.specs.Chain.{Field}

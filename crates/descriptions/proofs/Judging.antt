@@ -16,7 +16,7 @@ use Rattle.fields.specs.Readings.{Reads}
 use Rattle.fields.specs.declared.FieldRead.{FieldRead}
 use Rattle.fields.specs.declared.FieldRead.TheVariants.{Malformed, Ignored, Link, Cancel, Flag, Number, String}
 use Rattle.descriptions.specs.Judgement.{linked, FieldsJudged}
-use Rattle.descriptions.specs.declared.Judged.TheVariants.{Malformed as MalformedLine, Ends, Links}
+use Rattle.std.specs.Prelude.{Some, None}
 
 -- ---- the answers that an arm `_` takes together
 
@@ -93,7 +93,7 @@ module _ (s : List ℕ) (i n : ℕ) (q : Judging s i n) where
     pub judging_on : length (field_at s i) ≡ k → judge (field_at s i ∷ split (line_at s next)) ≡ judge (split (line_at s next)) → Judging s next (n + (k + 1))
     judging_on f h = record { sized = sized_on s 0 i n q.sized k next e f; verdict = judging_next ∙ h }
 
-    pub judging_malformed : reading (field_at s i) ≡ malformed → FieldsJudged s MalformedLine
+    pub judging_malformed : reading (field_at s i) ≡ malformed → FieldsJudged s None
     judging_malformed h = judging_next ∙ judge-malformed _ _ h
 
     pub judging_link : (name : ℕ) → length (field_at s i) ≡ k → (reading (field_at s i) ≡ link (field_at s name)) × (name ≤ length s)
@@ -102,9 +102,9 @@ module _ (s : List ℕ) (i n : ℕ) (q : Judging s i n) where
     judging_link name f h = go (all_ignored (split (line_at s next))) refl
       where
         go : (x : Bool) → all_ignored (split (line_at s next)) ≡ x
-            → FieldsJudged s (pick x (Links (n + (k + 1) + size (split (line_at s next))) name) MalformedLine)
-        go true a = (judging_next ∙ judge-link _ _ _ h.0 a, sized_on s 0 i n q.sized k next e f, h.1)
+            → FieldsJudged s (pick x (Some (record { size = n + (k + 1) + size (split (line_at s next)); link = Some name })) None)
+        go true a = ((judging_next ∙ judge-link _ _ _ h.0 a, h.1), sized_on s 0 i n q.sized k next e f)
         go false a = judging_next ∙ judge-after _ _ _ h.0 a
 
-  pub judging_done : split (line_at s i) ≡ [] → FieldsJudged s (Ends n)
+  pub judging_done : split (line_at s i) ≡ [] → FieldsJudged s (Some (record { size = n; link = None }))
   judging_done e = (q.verdict ∙ ap judge e ∙ judge_nil, sized_done s 0 i n q.sized e)

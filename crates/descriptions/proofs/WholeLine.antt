@@ -1,5 +1,6 @@
 -- A line judged by the part of the database that starts after its names.
 -- Assumes nothing.
+use Rattle.std.specs.Prelude.{Some, None}
 use Prim.Native.Nat.{ℕ, ◌+◌, ◌≤◌}
 use mathlib.Core.Path.{◌≡◌, ◌∙◌, ap, sym}
 use mathlib.Core.List.{List}
@@ -11,13 +12,11 @@ use Rattle.spec.specs.Fields.{split, size, line_size, judge, link_to, verdict}
 use Rattle.laws.proofs.FieldSteps.{line-size}
 use Rattle.laws.proofs.Judging.{verdict-colon}
 use Rattle.field_bounds.specs.Answers.{NamesPassed}
-use Rattle.field_bounds.specs.declared.AfterNames.TheVariants.{At}
 use Rattle.field_bounds.proofs.LineBounds.{line_bound, open_bound}
 use Rattle.field_bounds.proofs.Parts.{part, part_at, part_fields, part_inside}
 use Rattle.descriptions.specs.Judgement.{FieldsJudged, LineJudged}
-use Rattle.descriptions.specs.declared.Judged.TheVariants.{Malformed, Ends, Links}
 
-module _ (db : List ℕ) (at a n : ℕ) (p : NamesPassed db at (At a n)) where
+module _ (db : List ℕ) (at a n : ℕ) (p : NamesPassed db at (Some (record { fields = a; names = n }))) where
   line-verdict : verdict (line_at db at) ≡ judge (split (line_at (part db a) 0))
   line-verdict = verdict-colon (line_at db at) p.0 ∙ ap judge (sym (part_fields db at a n p))
 
@@ -25,18 +24,19 @@ module _ (db : List ℕ) (at a n : ℕ) (p : NamesPassed db at (At a n)) where
   unfolding line_size
   line-size_is = omega (arith, p.2, ap size (part_fields db at a n p))
 
-  pub part_malformed : FieldsJudged (part db a) Malformed → LineJudged db at Malformed
+  pub part_malformed : FieldsJudged (part db a) None → LineJudged db at None
   part_malformed h = line-verdict ∙ h
 
   pub part_room : size (split (line_at (part db a) 0)) + n ≤ length db
   part_room = omega (arith, line-size_is, line-size (line_at db at) p.0, open_bound (past 58 (line_at db at)), line_bound db at)
 
-  pub part_ends : (k : ℕ) → FieldsJudged (part db a) (Ends k) → LineJudged db at (Ends (n + 1 + k))
+  pub part_ends : (k : ℕ) → FieldsJudged (part db a) (Some (record { size = k; link = None }))
+      → LineJudged db at (Some (record { size = n + 1 + k; link = None }))
   part_ends k h = (line-verdict ∙ h.0, line-size_is ∙ omega (arith, h.1))
 
-  pub part_links : (k name : ℕ) → FieldsJudged (part db a) (Links k name) → LineJudged db at (Links (n + 1 + k) (a + name))
+  pub part_links : (k name : ℕ) → FieldsJudged (part db a) (Some (record { size = k; link = Some name }))
+      → LineJudged db at (Some (record { size = n + 1 + k; link = Some (a + name) }))
   part_links k name h = (
-    line-verdict ∙ h.0 ∙ ap (λ (l : List ℕ). link_to (upto 58 l)) (part_at db at a n p name),
+    (line-verdict ∙ h.0.0 ∙ ap (λ (l : List ℕ). link_to (upto 58 l)) (part_at db at a n p name), part_inside db at a n p name h.0.1),
     line-size_is ∙ omega (arith, h.1),
-    part_inside db at a n p name h.2,
   )

@@ -75,5 +75,7 @@ module _ (s : List ℕ) (at first i k v : ℕ) (q : EscapeRead s at first i k v)
     pub escape_large : 255 < v → TextBegins (one_digit (first - 48)) s at Bad
     escape_large l = mode ∙ octal_escape v _ _ three ∙ rw (lt-leb v 255 l)
 
-    pub escape_byte : v ≤ 255 → TextBegins (one_digit (first - 48)) s at (Byte v i (k + 1))
-    escape_byte l = (mode ∙ octal_escape v _ _ three ∙ rw (le-leb v 255 l), omega (arith, q.onward), q.within (omega arith), q.passed)
+    pub escape_byte : v ≤ 255 → TextBegins (one_digit (first - 48)) s at (Byte v i 4)
+    escape_byte l =
+        let all : k + 1 ≡ 4 = omega (arith, q.few) in
+        (mode ∙ octal_escape v _ _ three ∙ rw (le-leb v 255 l), omega (arith, q.onward), q.within (omega arith), λ p o. rw all at (q.passed p o))

@@ -1,6 +1,7 @@
 -- A string's text decoded step by step: a step's answer passed on, and the bytes stored so far.
 -- Assumes nothing.
-use Prim.Native.Nat.{ℕ, ◌+◌, ◌-◌, ◌≤◌, ◌<◌}
+use Rattle.std.specs.Prelude.{Some, None}
+use Prim.Native.Nat.{ℕ, ◌+◌, ◌≤◌, ◌<◌}
 use mathlib.Core.Path.{◌≡◌, refl, ◌∙◌, ap, sym}
 use mathlib.Core.List.{List, [], ◌∷◌, ◌++◌, append-nil}
 use native.Mathlib.Omega.{arith}
@@ -11,12 +12,9 @@ use Rattle.laws.proofs.FieldSteps.{after, after-emit}
 use Rattle.laws.proofs.Stores.{stored-append}
 use Rattle.field_bounds.specs.Answers.{field_at, Passed}
 use Rattle.field_bounds.proofs.FieldBytes.{passed_none, passed_over}
-use Rattle.field_bounds.proofs.LineBounds.{passed_bound}
 use Rattle.escapes.specs.Steps.{in_hand, TextBegins, Decodes, Measures}
 use Rattle.escapes.specs.declared.TextStep.{TextStep}
 use Rattle.escapes.specs.declared.TextStep.TheVariants.{Byte, End, Bad}
-use Rattle.escapes.specs.declared.Decoding.TheVariants.{Good, Bad as Fault}
-use Rattle.escapes.specs.declared.Measured.TheVariants.{Good as MeasuredGood, Bad as MeasuredBad}
 
 -- a byte was passed, and the rest of the text is what another answer is about
 pub text_on : (m k : Mode) (s : List ℕ) (at n : ℕ) (r : TextStep) → decode m (field_at s at) ≡ decode k (field_at s n) → at < n → Passed s at n 1
@@ -79,10 +77,10 @@ module _ (s : List ℕ) (at : ℕ) (out₀ out : List ℕ) (i k : ℕ) (q : Deco
             ∙ sym (stored-append out₀ 0 q.bytes (b ∷ []));
       }
 
-  pub decoding_done : decode plain (field_at s i) ≡ good [] → Decodes s at out₀ out (Good k)
+  pub decoding_done : decode plain (field_at s i) ≡ good [] → Decodes s at out₀ out (Some k)
   decoding_done e = (q.bytes, reading_done s at i k q.bytes q.text e, q.text.count, q.stored)
 
-  pub decoding_fault : decode plain (field_at s i) ≡ bad → Decodes s at out₀ out Fault
+  pub decoding_fault : decode plain (field_at s i) ≡ bad → Decodes s at out₀ out None
   decoding_fault e = (reading-fault s at i k q.bytes q.text e, decoding_kept)
 
 -- They are counted, and `w` bytes of the text are passed.
@@ -103,11 +101,8 @@ module _ (s : List ℕ) (at i k w : ℕ) (q : Measuring s at i k w) where
       passed = passed_over s at i n w v q.passed (p.3 i (passed_none s i));
     }
 
-    pub measuring_room : w + v ≤ length s - at
-    measuring_room = passed_bound s at n (w + v) measuring_on.passed
+  pub measuring_done : decode plain (field_at s i) ≡ good [] → Measures s at (record { count = Some k; stop = i; passed = w })
+  measuring_done e = ((q.bytes, reading_done s at i k q.bytes q.text e, q.text.count), q.passed)
 
-  pub measuring_done : decode plain (field_at s i) ≡ good [] → Measures s at (MeasuredGood k i w)
-  measuring_done e = (q.bytes, reading_done s at i k q.bytes q.text e, q.text.count, q.passed)
-
-  pub measuring_fault : decode plain (field_at s i) ≡ bad → Measures s at (MeasuredBad i w)
+  pub measuring_fault : decode plain (field_at s i) ≡ bad → Measures s at (record { count = None; stop = i; passed = w })
   measuring_fault e = (reading-fault s at i k q.bytes q.text e, q.passed)

@@ -3,11 +3,10 @@
 
 ghost use Rattle.std.specs.Prelude.{◌-◌, ◌≡◌, true};
 ghost use Rattle.spec.specs.Digits.{is_digit};
-ghost use Rattle.spec.specs.Strings.{escaped, plain, slash, caret, one_digit};
-ghost use Rattle.escapes.specs.Steps.{TextBegins, Decodes, Measures};
+ghost use Rattle.spec.specs.Strings.{plain, slash, caret, one_digit};
+ghost use Rattle.escapes.specs.Steps.{TextBegins, Escapes, Decodes, Measures};
 
 use field_bounds::field_byte;
-use lines::Step;
 use stores::put_after;
 
 // The digits of an octal escape, and the greatest value of them.
@@ -15,23 +14,17 @@ const OCTAL_DIGITS: usize = 3;
 
 const OCTAL_LIMIT: u16 = 255;
 
-// The count of the bytes that a string's text stands for, or a fault in it.
+// The count of the bytes that a string's text stands for, or none for a fault in it; the place where the reader stopped; and the count of
+// the text's bytes up to there.
 #[derive(Clone, Copy)]
-pub enum Decoding {
-    Good(usize),
-    Bad,
-}
-
-// The count of the bytes that a string's text stands for, or a fault in it; then the place where the reader stopped, and the count of the
-// text's bytes up to there.
-#[derive(Clone, Copy)]
-pub enum Measured {
-    Good(usize, usize, usize),
-    Bad(usize, usize),
+pub struct Measured {
+    pub count: Option<usize>,
+    pub stop: usize,
+    pub passed: usize,
 }
 
 // A byte that a string's text stands for, with the place after what is written for it and the count of the bytes that are; the text's
-// end; or a fault in it.
+// end; or a fault in it. No `Option`: the end is no fault.
 #[derive(Clone, Copy)]
 enum TextStep {
     Byte(u8, usize, usize),
@@ -45,41 +38,39 @@ fn octal_escape(s: &[u8], at: usize, first: u8) -> TextStep
     ensures { TextBegins (one_digit (first - 48)) s.now at result }
 {
     let mut i = at;
-    let mut k: usize = 1;
-    let mut v: u16 = (first - b'0') as u16;
-    while k < OCTAL_DIGITS {
+    let mut v = u16::from(first - b'0');
+    for _ in 1..OCTAL_DIGITS {
         match field_byte(s, i) {
-            Step::Byte(b, n) => match b {
+            Some((b, n)) => match b {
                 b'0'..=b'7' => {
-                    v = v * 8 + (b - b'0') as u16;
-                    k += 1;
+                    v = v * 8 + u16::from(b - b'0');
                     i = n;
                 }
                 _ => return TextStep::Bad,
             },
-            Step::End => return TextStep::Bad,
+            None => return TextStep::Bad,
         }
     }
     if v > OCTAL_LIMIT {
         return TextStep::Bad;
     }
-    TextStep::Byte(v as u8, i, k + 1)
+    TextStep::Byte(v as u8, i, OCTAL_DIGITS + 1)
 }
 
-// The byte for a letter after a backslash, or 256 if there is no such escape.
-fn escape_of(b: u8) -> u16
-    ensures { result ≡ escaped b }
+// The byte for a letter after a backslash.
+#[tactic(auto, unfolding(spec::specs::Strings::escaped))]
+fn escape_of(b: u8) -> Option<u8>
+    ensures { Escapes b result }
 {
     match b {
-        b'E' => 27,
-        b'n' => 10,
-        b'r' => 13,
-        b't' => 9,
-        b'b' => 8,
-        b'f' => 12,
-        b'^' => 94,
-        b'\\' => 92,
-        _ => 256,
+        b'E' => Some(27),
+        b'n' => Some(b'\n'),
+        b'r' => Some(b'\r'),
+        b't' => Some(b'\t'),
+        b'b' => Some(8),
+        b'f' => Some(12),
+        b'^' | b'\\' => Some(b),
+        _ => None,
     }
 }
 
@@ -88,17 +79,14 @@ fn after_backslash(s: &[u8], at: usize) -> TextStep
     ensures { TextBegins slash s.now at result }
 {
     match field_byte(s, at) {
-        Step::Byte(b, n) => match b {
+        Some((b, n)) => match b {
             b'0'..=b'7' => octal_escape(s, n, b),
-            _ => {
-                let v = escape_of(b);
-                if v > 255 {
-                    return TextStep::Bad;
-                }
-                TextStep::Byte(v as u8, n, 2)
-            }
+            _ => match escape_of(b) {
+                Some(v) => TextStep::Byte(v, n, 2),
+                None => TextStep::Bad,
+            },
         },
-        Step::End => TextStep::Bad,
+        None => TextStep::Bad,
     }
 }
 
@@ -107,12 +95,12 @@ fn after_caret(s: &[u8], at: usize) -> TextStep
     ensures { TextBegins caret s.now at result }
 {
     match field_byte(s, at) {
-        Step::Byte(b, n) => match b {
+        Some((b, n)) => match b {
             b'?' => TextStep::Byte(127, n, 2),
             64..=126 => TextStep::Byte(b % 32, n, 2),
             _ => TextStep::Bad,
         },
-        Step::End => TextStep::Bad,
+        None => TextStep::Bad,
     }
 }
 
@@ -121,18 +109,19 @@ fn text_byte(s: &[u8], at: usize) -> TextStep
     ensures { TextBegins plain s.now at result }
 {
     match field_byte(s, at) {
-        Step::Byte(b, n) => match b {
+        Some((b, n)) => match b {
             b'\\' => after_backslash(s, n),
             b'^' => after_caret(s, n),
-            32..=126 => TextStep::Byte(b, n, 1),
+            b' '..=b'~' => TextStep::Byte(b, n, 1),
             _ => TextStep::Bad,
         },
-        Step::End => TextStep::End,
+        None => TextStep::End,
     }
 }
 
-// Decodes the text of the field at a place to the start of `out`, and counts its bytes. What has no room is not stored.
-pub fn decode_text(s: &[u8], at: usize, out: &mut [u8]) -> Decoding
+// Decodes the text of the field at a place to the start of `out`, and counts its bytes; none for a fault in it. What has no room is not
+// stored.
+pub fn decode_text(s: &[u8], at: usize, out: &mut [u8]) -> Option<usize>
     ensures { Decodes s.now at out.old out.new result }
 {
     let mut i = at;
@@ -144,8 +133,8 @@ pub fn decode_text(s: &[u8], at: usize, out: &mut [u8]) -> Decoding
                 k += 1;
                 i = n;
             }
-            TextStep::End => return Decoding::Good(k),
-            TextStep::Bad => return Decoding::Bad,
+            TextStep::End => return Some(k),
+            TextStep::Bad => return None,
         }
     }
 }
@@ -164,8 +153,16 @@ pub fn measure_text(s: &[u8], at: usize) -> Measured
                 passed += w;
                 i = n;
             }
-            TextStep::End => return Measured::Good(k, i, passed),
-            TextStep::Bad => return Measured::Bad(i, passed),
+            TextStep::End => return Measured {
+                count: Some(k),
+                stop: i,
+                passed,
+            },
+            TextStep::Bad => return Measured {
+                count: None,
+                stop: i,
+                passed,
+            },
         }
     }
 }

@@ -1,5 +1,6 @@
 -- The part of the database that starts after a line's names: its lines are those of the database, and its first one has the fields.
 -- Assumes nothing.
+use Rattle.std.specs.Prelude.{Some}
 use Prim.Native.Nat.{ℕ, ◌+◌, ◌-◌, ◌≤◌}
 use mathlib.Core.Path.{◌≡◌, ◌∙◌, ap, sym}
 use mathlib.Core.List.{List}
@@ -11,7 +12,6 @@ use Rattle.spec.specs.Lines.{line_at}
 use Rattle.spec.specs.Fields.{split, fields_of}
 use Rattle.laws.proofs.WholeLines.{part_line}
 use Rattle.field_bounds.specs.Answers.{NamesPassed}
-use Rattle.field_bounds.specs.declared.AfterNames.TheVariants.{At}
 
 -- the part of the database from a place on, as `&db[a..]` has it
 abbrev pub part : List ℕ → ℕ → List ℕ
@@ -22,7 +22,7 @@ part_is db a =
     let l : length (drop a db) ≤ length db - a = rw length-drop (omega arith) in
     take_all (length db - a) (drop a db) l
 
-module _ (db : List ℕ) (at a n : ℕ) (p : NamesPassed db at (At a n)) where
+module _ (db : List ℕ) (at a n : ℕ) (p : NamesPassed db at (Some (record { fields = a; names = n }))) where
   pub part_at : (i : ℕ) → line_at (part db a) i ≡ line_at db (a + i)
   part_at i = rw (part_is db a) (part_line db a i)
 

@@ -1,5 +1,6 @@
 -- The bounds of a field of which bytes are passed already, by the bounds of its rest.
 -- Assumes nothing.
+use Rattle.std.specs.Prelude.{Some, None}
 use Prim.Native.Nat.{ℕ, ◌+◌, ◌≤◌}
 use mathlib.Core.Path.{◌≡◌, refl, ◌∙◌, ap, sym}
 use mathlib.Core.Bool.{false}
@@ -11,7 +12,6 @@ use Rattle.spec.specs.Lines.{line_at}
 use Rattle.spec.specs.Fields.{split, size}
 use Rattle.laws.proofs.FieldSteps.{split_first, split_nil}
 use Rattle.field_bounds.specs.Answers.{field_at, Passed, Bounded}
-use Rattle.field_bounds.specs.declared.Bounds.TheVariants.{Nothing, Field}
 use Rattle.field_bounds.proofs.Pieces.{piece_none, piece_last, fields-none}
 use Rattle.field_bounds.proofs.LineBounds.{last_field, field_inside, size_bound}
 
@@ -33,7 +33,7 @@ no_field l f fs e h =
     omega arith
 
 -- a field is no longer than what it is read from
-pub field_bound : (s : List ℕ) (at n next : ℕ) → Bounded s at (Field n next) → n ≤ length s
+pub field_bound : (s : List ℕ) (at n next : ℕ) → Bounded s at (Some (record { length = n; next = next })) → n ≤ length s
 unfolding size
 field_bound s at n next p = omega (arith, size_bound s at, ap size p.0, p.1)
 
@@ -44,7 +44,7 @@ module _ (s : List ℕ) (at i n : ℕ) (q : Passed s at i n) where
       let none : length (field_at s i) ≡ 0 = omega (arith, q.count, ap (λ (l : List ℕ). length (upto 58 l)) e) in
       piece_none _ (sym q.colon ∙ ap (holds 58) e) none
 
-  pub bounds_over : (m next : ℕ) → Bounded s i (Field m next) → Bounded s at (Field (n + m) next)
+  pub bounds_over : (m next : ℕ) → Bounded s i (Some (record { length = m; next = next })) → Bounded s at (Some (record { length = (n + m); next = next }))
   bounds_over m next p =
       let whole = split-some (line_at s at) (λ e. no_field (line_at s i) _ _ p.0 (rest_empty e)) in
       let here = split-some (line_at s i) (no_field (line_at s i) _ _ p.0) in
@@ -64,10 +64,10 @@ module _ (s : List ℕ) (at i n : ℕ) (q : Passed s at i n) where
     unfolding upto
     all-passed = omega (arith, q.count, ap (λ (l : List ℕ). length (upto 58 l)) (split-none _ p))
 
-    pub bounds_none : n ≡ 0 → Bounded s at Nothing
+    pub bounds_none : n ≡ 0 → Bounded s at None
     bounds_none e = fields-none _ no_colon_lem (all-passed ∙ e)
 
-    pub bounds_last : (n ≡ 0 → ⊥) → Bounded s at (Field n (length s))
+    pub bounds_last : (n ≡ 0 → ⊥) → Bounded s at (Some (record { length = n; next = (length s) }))
     bounds_last h =
         let last = piece_last _ no_colon_lem (λ e. h (sym all-passed ∙ e)) in
         (last_field s at _ last, all-passed, field_inside s at _ _ last, omega arith)

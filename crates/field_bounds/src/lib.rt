@@ -6,89 +6,100 @@ ghost use Rattle.std.specs.Prelude.{◌≡◌, length};
 ghost use Rattle.std.proofs.lemmas.List.Edits.{sets};
 ghost use Rattle.field_bounds.specs.Answers.{field_at, FieldStep, ColonFound, Bounded, NamesPassed};
 
-use lines::{Step, peek};
+use lines::peek;
 use stores::put_after;
 
-// The field at a place: none is left; or one of so many joined bytes, with the place behind it: behind its colon, or the end of `s` for a
-// last one.
+// A field: its joined bytes, and the place behind it: behind its colon, or the end of `s` for a last one.
 #[derive(Clone, Copy)]
-pub enum Bounds {
-    Nothing,
-    Field(usize, usize),
+pub struct Bounds {
+    pub length: usize,
+    pub next: usize,
 }
 
 // Where the fields of a line start, and how many bytes its names have.
 #[derive(Clone, Copy)]
-pub enum AfterNames {
-    At(usize, usize),
-    NoColon,
+pub struct AfterNames {
+    pub fields: usize,
+    pub names: usize,
 }
 
-// The colon that ends the field at a place: the field's length and the place after the colon; or the line ends without one, after so
-// many bytes.
+// How far the field at a place reaches: its length, and the place after the colon that ends it, if the line does not end first.
 #[derive(Clone, Copy)]
-enum Colon {
-    After(usize, usize),
-    Missing(usize),
+struct Extent {
+    length: usize,
+    after: Option<usize>,
 }
 
 // The first byte of the field at a place: it ends at a colon, or with the line.
-pub fn field_byte(s: &[u8], at: usize) -> Step
+#[tactic(auto, using(crate::proofs::FieldBytes::field_ends, crate::proofs::FieldBytes::field_over))]
+pub fn field_byte(s: &[u8], at: usize) -> Option<(u8, usize)>
     ensures { FieldStep s.now at result }
 {
-    match peek(s, at) {
-        Step::Byte(b, n) => match b {
-            b'\n' | b':' => Step::End,
-            _ => Step::Byte(b, n),
-        },
-        Step::End => Step::End,
+    let (b, n) = peek(s, at)?;
+    match b {
+        b'\n' | b':' => None,
+        _ => Some((b, n)),
     }
 }
 
 // The next colon of the line at a place.
-fn find_colon(s: &[u8], at: usize) -> Colon
+fn find_colon(s: &[u8], at: usize) -> Extent
     ensures { ColonFound s.now at result }
 {
     let mut i = at;
-    let mut n = 0;
+    let mut length = 0;
     loop {
         match peek(s, i) {
-            Step::Byte(b, j) => match b {
-                b'\n' => return Colon::Missing(n),
-                b':' => return Colon::After(n, j),
+            Some((b, next)) => match b {
+                b'\n' => return Extent {
+                    length,
+                    after: None,
+                },
+                b':' => return Extent {
+                    length,
+                    after: Some(next),
+                },
                 _ => {
-                    n += 1;
-                    i = j;
+                    length += 1;
+                    i = next;
                 }
             },
-            Step::End => return Colon::Missing(n),
+            None => return Extent {
+                length,
+                after: None,
+            },
         }
     }
 }
 
 // "Each ends at a colon, always, and text after the last colon is a field unless empty."
-pub fn next_bounds(s: &[u8], at: usize) -> Bounds
+pub fn next_bounds(s: &[u8], at: usize) -> Option<Bounds>
     ensures { Bounded s.now at result }
 {
-    match find_colon(s, at) {
-        Colon::After(length, next) => Bounds::Field(length, next),
-        Colon::Missing(length) => {
-            if length == 0 {
-                return Bounds::Nothing;
-            }
-            Bounds::Field(length, s.len())
-        }
+    let colon = find_colon(s, at);
+    match colon.after {
+        Some(next) => Some(Bounds {
+            length: colon.length,
+            next,
+        }),
+        None if colon.length == 0 => None,
+        None => Some(Bounds {
+            length: colon.length,
+            next: s.len(),
+        }),
     }
 }
 
 // "The fields are read from the byte after the first colon on."
-pub fn after_names(db: &[u8], at: usize) -> AfterNames
+pub fn after_names(db: &[u8], at: usize) -> Option<AfterNames>
     ensures { NamesPassed db.now at result }
 {
-    match find_colon(db, at) {
-        Colon::After(n, fields) => AfterNames::At(fields, n),
-        Colon::Missing(_) => AfterNames::NoColon,
-    }
+    let colon = find_colon(db, at);
+    let fields = colon.after?;
+    Some(AfterNames {
+        fields,
+        names: colon.length,
+    })
 }
 
 // Copies the text of the field at a place, joined and as written, to `out` from `to` on, and tells its length. What has no room is not
@@ -100,12 +111,12 @@ pub fn copy_field(s: &[u8], at: usize, out: &mut [u8], to: usize) -> usize
     let mut k = 0;
     loop {
         match field_byte(s, i) {
-            Step::Byte(b, n) => {
+            Some((b, n)) => {
                 put_after(out, to, k, b);
                 k += 1;
                 i = n;
             }
-            Step::End => return k,
+            None => return k,
         }
     }
 }

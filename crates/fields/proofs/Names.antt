@@ -1,76 +1,33 @@
 -- Names and ids by their bytes, as a reader of a field meets them.
 -- Assumes nothing.
 use Prim.Native.Nat.{ℕ, ◌+◌, ◌≤◌, ◌<◌}
-use mathlib.Core.Path.{◌≡◌, refl, ◌∙◌, ap}
-use mathlib.Core.Bool.{true, false, not}
+use mathlib.Core.Path.{◌≡◌, ◌∙◌, ap}
+use mathlib.Core.Bool.{true, false}
 use mathlib.Core.List.{List, [], ◌∷◌}
 use mathlib.Core.Logic.{◌⊎◌, inl, inr}
 use native.Mathlib.Omega.{arith}
-use borrow.Author.Tests.{eq-eqb, ne_eqb, le-leb, lt-leb}
-use lib.Dec.{eqb, leb}
+use borrow.Author.Tests.{ne_eqb, le-leb, lt-leb}
+use lib.Dec.{leb}
 use lib.ListN.{length}
 use Rattle.spec.specs.Choice.{between}
 use Rattle.spec.specs.Lines.{blank}
-use Rattle.spec.specs.Refusals.{name_byte, name_bytes, good_name, id_byte, is_tc, id_bytes}
+use Rattle.spec.specs.Refusals.{name_byte, name_bytes, good_name, id_byte, id_bytes}
 use Rattle.laws.proofs.FieldSteps.{outside}
 use Rattle.laws.proofs.Tests.{both_false}
 use Rattle.field_bounds.specs.Answers.{field_at, Passed}
-use Rattle.field_bounds.proofs.FieldBytes.{passed_none, passed_over}
+use Rattle.field_bounds.proofs.FieldBytes.{passed_over}
 
 -- ---- one byte
 
-module _ (b : ℕ) where
-  pub name_mark : (b ≡ 58) ⊎ ((b ≡ 92) ⊎ (b ≡ 124)) → name_byte b ≡ false
-  unfolding name_byte
-  name_mark (inl e) = rw (e)
-  name_mark (inr (inl e)) = rw (e)
-  name_mark (inr (inr e)) = rw (e)
-
-  pub name_outside : ((32 ≤ b) × (b ≤ 126) → ⊥) → name_byte b ≡ false
-  unfolding name_byte
-  name_outside h = rw (outside 32 126 b h)
-
-  pub name-inside : 32 ≤ b → b ≤ 126 → ((b ≡ 58) ⊎ ((b ≡ 92) ⊎ (b ≡ 124)) → ⊥) → name_byte b ≡ true
-  unfolding name_byte
-  name-inside h k n =
-      rw (le-leb 32 b h, le-leb b 126 k, ne_eqb b 124 (λ e. n (inr (inr e))), ne_eqb b 58 (λ e. n (inl e)), ne_eqb b 92 (λ e. n (inr (inl e))))
-
-  pub id_mark : (b ≡ 58) ⊎ (b ≡ 92) → id_byte b ≡ false
-  unfolding id_byte
-  id_mark (inl e) = rw (e)
-  id_mark (inr e) = rw (e)
-
-  pub id_outside : ((33 ≤ b) × (b ≤ 126) → ⊥) → id_byte b ≡ false
-  unfolding id_byte
-  id_outside h = rw (outside 33 126 b h)
-
-  pub id_inside : 33 ≤ b → b ≤ 126 → ((b ≡ 58) ⊎ (b ≡ 92) → ⊥) → id_byte b ≡ true
-  unfolding id_byte
-  id_inside h k n = rw (le-leb 33 b h, le-leb b 126 k, ne_eqb b 58 (λ e. n (inl e)), ne_eqb b 92 (λ e. n (inr e)))
+pub id_outside : (b : ℕ) → ((33 ≤ b) × (b ≤ 126) → ⊥) → id_byte b ≡ false
+unfolding id_byte
+id_outside b h = rw (outside 33 126 b h)
 
 -- ---- an id
 
-module _ (a b : ℕ) where
-  pub id_first : id_byte a ≡ false → id_bytes a b ≡ false
-  unfolding id_bytes
-  id_first e = rw e
-
-  pub id_second : id_byte b ≡ false → id_bytes a b ≡ false
-  unfolding id_bytes
-  id_second e = rw (e, both_false (id_byte a))
-
-  module _ (e : id_byte a ≡ true) (f : id_byte b ≡ true) where
-    pub id_dot : a ≡ 46 → id_bytes a b ≡ false
-    unfolding id_bytes
-    id_dot d = rw (e, f, eq-eqb a 46 d)
-
-    pub id_tc : a ≡ 116 → id_bytes a b ≡ not (eqb b 99)
-    unfolding id_bytes is_tc
-    id_tc d = rw (e, f, ne_eqb a 46 (omega arith), eq-eqb a 116 d)
-
-    pub id_other : (a ≡ 46 → ⊥) → (a ≡ 116 → ⊥) → id_bytes a b ≡ true
-    unfolding id_bytes is_tc
-    id_other d k = rw (e, f, ne_eqb a 46 d, ne_eqb a 116 k)
+pub id_first : (a b : ℕ) → id_byte a ≡ false → id_bytes a b ≡ false
+unfolding id_bytes
+id_first a b e = rw e
 
 -- ---- a name: `k` good bytes of the field at `at` were passed up to the place `i`
 
@@ -78,9 +35,6 @@ pub record Named (s : List ℕ) (at i k : ℕ) : Type 0 where
   pub few : k ≤ 64
   pub passed : Passed s at i k
   pub bytes : name_bytes (field_at s at) ≡ name_bytes (field_at s i)
-
-pub named_none : (s : List ℕ) (at : ℕ) → Named s at at 0
-named_none s at = record { few = omega arith; passed = passed_none s at; bytes = refl }
 
 good-short : (n : List ℕ) → length n ≡ 0 → good_name n ≡ false
 unfolding good_name

@@ -8,7 +8,7 @@ use native.Mathlib.Numerals.{add-one}
 use native.Mathlib.Omega.{arith}
 use borrow.Author.Tests.{eq-eqb, ne_eqb}
 use lib.ListN.{length, take, get_or}
-use lib.Seq.{take-suc, take_all}
+use lib.Seq.{take-suc}
 use Rattle.laws.proofs.TextSteps.{rest, drop-next}
 use Rattle.field_bounds.specs.Answers.{field_at, Passed}
 use Rattle.field_bounds.proofs.FieldBytes.{passed_none, passed_over}
@@ -50,6 +50,3 @@ module _ (s : List ℕ) (at : ℕ) (start : List ℕ) (i k : ℕ) (q : Started s
     pub started_short : field_at s i ≡ [] → starts start (field_at s at) ≡ false
     unfolding starts
     started_short e = q.same ∙ rw (e, next_of)
-
-  pub started_all : length start ≤ k → (field_at s at ≡ start ++ field_at s i) × Passed s at i (length start)
-  started_all h = let all : k ≡ length start = omega (arith, q.few, h) in (q.read ∙ rw (take_all k start h), rw (← all) q.passed)

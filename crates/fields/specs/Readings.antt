@@ -1,5 +1,5 @@
 -- What the functions that read one field answer, by the cases of their answers.
-use Rattle.std.specs.Prelude.{ℕ, ◌≤◌, ◌<◌, ◌≡◌, Bool, true, false, List, [], ◌∷◌, ◌++◌, eqb, length}
+use Rattle.std.specs.Prelude.{ℕ, ◌≤◌, ◌<◌, ◌≡◌, Bool, true, false, List, [], ◌∷◌, ◌++◌, eqb, length, Option, Some, None}
 use Rattle.spec.specs.Choice.{pick, both}
 use Rattle.spec.specs.Refusals.{id_bytes}
 use Rattle.spec.specs.Lines.{line_at}
@@ -9,13 +9,9 @@ use Rattle.spec.specs.Fields.{Reading, malformed, ignored, link, capability, can
 use Rattle.field_bounds.specs.Answers.{field_at, Passed}
 use Rattle.fields.specs.declared.FieldRead.{FieldRead}
 use Rattle.fields.specs.declared.FieldRead.TheVariants.{Malformed, Ignored, Link, Cancel, Flag, Number, String}
-use Rattle.fields.specs.declared.NextField.{NextField}
-use Rattle.fields.specs.declared.NextField.TheVariants.{Nothing, Field}
 use Rattle.fields.specs.declared.Stopped.{Stopped}
-use Rattle.fields.specs.declared.AfterStart.{AfterStart}
-use Rattle.fields.specs.declared.AfterStart.TheVariants.{At, Other}
 use Rattle.fields.specs.declared.Digits.{Digits}
-use Rattle.fields.specs.declared.Digits.TheVariants.{Value, Bad}
+use Rattle.fields.specs.declared.Field.{Field}
 
 -- Whether a list starts with another.
 unfoldable pub starts : List ℕ → List ℕ → Bool
@@ -24,15 +20,18 @@ starts (a ∷ start) [] = false
 starts (a ∷ start) (b ∷ l) = both (eqb b a) (starts start l)
 
 -- `after_start`: the field at a place is the start and then the field at the place that it answers; or it starts otherwise.
-abbrev pub Starts : List ℕ → ℕ → List ℕ → AfterStart → Type 0
-Starts s at start (At n) = (field_at s at ≡ start ++ field_at s n) × Passed s at n (length start)
-Starts s at start Other = starts start (field_at s at) ≡ false
+abbrev pub Starts : List ℕ → ℕ → List ℕ → Option ℕ → Type 0
+Starts s at start (Some n) = (field_at s at ≡ start ++ field_at s n) × Passed s at n (length start)
+Starts s at start None = starts start (field_at s at) ≡ false
 
--- `read_digits`: the field at a place is a number's digits, with their value, or not; and so many bytes of it are passed up to the place
--- where the reader stopped.
+-- The field at a place is a number's digits, with their value, or not.
+abbrev pub Valued : List ℕ → ℕ → Option ℕ → Type 0
+Valued s at (Some v) = (good_number (field_at s at) ≡ true) × (number_value (field_at s at) ≡ v)
+Valued s at None = good_number (field_at s at) ≡ false
+
+-- `read_digits`: the value of a number's digits, and so many bytes of the field are passed up to the place where the reader stopped.
 abbrev pub Numbers : List ℕ → ℕ → Digits → Type 0
-Numbers s at (Value v i k) = (good_number (field_at s at) ≡ true) × (number_value (field_at s at) ≡ v) × Passed s at i k × (k ≤ 6)
-Numbers s at (Bad i k) = (good_number (field_at s at) ≡ false) × Passed s at i k × (k ≤ 6)
+Numbers s at d = Valued s at d.value × Passed s at d.stop d.passed × (d.passed ≤ 6)
 
 -- The readers of parts of a field: a reading, with its link or its text at a place of `s`.
 abbrev pub ReadAs : List ℕ → Reading → FieldRead → Type 0
@@ -70,7 +69,7 @@ abbrev pub ReadUpTo : List ℕ → ℕ → Stopped → Type 0
 ReadUpTo s at r = Reads s at r.0 × Passed s at r.1 r.2
 
 -- `next_field`: the fields from a place on are none; or one that is read so, of so many bytes, and those from a place on.
-abbrev pub FieldsFrom : List ℕ → ℕ → NextField → Type 0
-FieldsFrom s at Nothing = split (line_at s at) ≡ []
-FieldsFrom s at (Field read n next) =
-    (split (line_at s at) ≡ field_at s at ∷ split (line_at s next)) × Reads s at read × (length (field_at s at) ≡ n) × (at < next) × (next ≤ length s)
+abbrev pub FieldsFrom : List ℕ → ℕ → Option Field → Type 0
+FieldsFrom s at None = split (line_at s at) ≡ []
+FieldsFrom s at (Some f) =
+    (split (line_at s at) ≡ field_at s at ∷ split (line_at s f.next)) × Reads s at f.read × (length (field_at s at) ≡ f.length) × (at < f.next) × (f.next ≤ length s)

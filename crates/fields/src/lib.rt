@@ -10,9 +10,8 @@ ghost use Rattle.spec.specs.Fields.{number_base, ignored, malformed, content_rea
 ghost use Rattle.field_bounds.specs.Answers.{field_at};
 ghost use Rattle.fields.specs.Readings.{Starts, other_reading, name_reading, Numbers, Stops, Reads, ReadUpTo, FieldsFrom};
 
-use escapes::{Measured, measure_text};
-use field_bounds::{Bounds, field_byte, next_bounds};
-use lines::Step;
+use escapes::measure_text;
+use field_bounds::{field_byte, next_bounds};
 
 // The most bytes of a name.
 const NAME_LIMIT: usize = 64;
@@ -41,29 +40,25 @@ pub enum FieldRead {
     String(u8, u8, usize, usize),
 }
 
-// The fields from a place on: none; or one that is read so, of so many joined bytes, with the place behind it.
+// A field that is read so, of so many joined bytes, with the place behind it.
 #[derive(Clone, Copy)]
-pub enum NextField {
-    Nothing,
-    Field(FieldRead, usize, usize),
+pub struct Field {
+    pub read: FieldRead,
+    pub length: usize,
+    pub next: usize,
 }
 
-// What a field is read as, the place where the reader stopped, and how many of the field's bytes stand before that place.
+// What a field is read as, the place where the reader stopped, and how many of the field's bytes stand before that place. A tuple:
+// with named fields each of its values would take five lines.
 #[derive(Clone, Copy)]
 struct Stopped(FieldRead, usize, usize);
 
-// The place after the bytes that a field starts with, or that it starts otherwise.
+// The value of a number's digits, or none for a fault in them; the place where the reader stopped; and how many bytes it passed.
 #[derive(Clone, Copy)]
-enum AfterStart {
-    At(usize),
-    Other,
-}
-
-// The value of a number's digits, or a fault in them; then the place where the reader stopped, and how many bytes it passed.
-#[derive(Clone, Copy)]
-enum Digits {
-    Value(u32, usize, usize),
-    Bad(usize, usize),
+struct Digits {
+    value: Option<u32>,
+    stop: usize,
+    passed: usize,
 }
 
 // The rest of a field that starts with a space or a tab: "Only spaces and tabs: ignored".
@@ -75,48 +70,39 @@ fn read_blanks(s: &[u8], at: usize) -> Stopped
     let mut passed = 1;
     loop {
         match field_byte(s, i) {
-            Step::Byte(b, n) => match b {
+            Some((b, n)) => match b {
                 b'\t' | b' ' => {
                     passed += 1;
                     i = n;
                 }
                 _ => return Stopped(FieldRead::Malformed, i, passed),
             },
-            Step::End => return Stopped(FieldRead::Ignored, i, passed),
+            None => return Stopped(FieldRead::Ignored, i, passed),
         }
     }
 }
 
 // The place after `start`, if the field at a place starts with it.
-fn after_start(s: &[u8], at: usize, start: &[u8]) -> AfterStart
+fn after_start(s: &[u8], at: usize, start: &[u8]) -> Option<usize>
     ensures { Starts s.now at start.now result }
 {
     let mut i = at;
-    let mut k = 0;
-    while k < start.len() {
-        match field_byte(s, i) {
-            Step::Byte(b, n) => {
-                if b != start[k] {
-                    return AfterStart::Other;
-                }
-                k += 1;
-                i = n;
-            }
-            Step::End => return AfterStart::Other,
+    for wanted in start {
+        let (b, n) = field_byte(s, i)?;
+        if b != *wanted {
+            return None;
         }
+        i = n;
     }
-    AfterStart::At(i)
+    Some(i)
 }
 
 // A byte of a name, as in refusal 1.
+#[tactic(auto, unfolding(spec::specs::Refusals::name_byte))]
 pub fn is_name_byte(b: u8) -> bool
     ensures { result ≡ name_byte b }
 {
-    match b {
-        b':' | b'\\' | b'|' => false,
-        32..=126 => true,
-        _ => false,
-    }
+    matches!(b, b' '..=b'~') && !matches!(b, b':' | b'\\' | b'|')
 }
 
 // The name of a link, after `tc=`: "a name as in refusal 1".
@@ -127,67 +113,47 @@ fn read_link_name(s: &[u8], at: usize) -> Stopped
     let mut k: usize = 0;
     loop {
         match field_byte(s, i) {
-            Step::Byte(b, n) => {
-                if k == NAME_LIMIT {
-                    return Stopped(FieldRead::Malformed, i, 3 + k);
-                }
-                if !is_name_byte(b) {
+            Some((b, n)) => {
+                if k == NAME_LIMIT || !is_name_byte(b) {
                     return Stopped(FieldRead::Malformed, i, 3 + k);
                 }
                 k += 1;
                 i = n;
             }
-            Step::End => {
-                if k == 0 {
-                    return Stopped(FieldRead::Malformed, i, 3 + k);
-                }
-                return Stopped(FieldRead::Link(at), i, 3 + k);
-            }
+            None if k == 0 => return Stopped(FieldRead::Malformed, i, 3),
+            None => return Stopped(FieldRead::Link(at), i, 3 + k),
         }
     }
 }
 
-// A byte of an id, as in refusal 2.
+// A byte of an id, as in refusal 2. By arms: two `matches!` take more instructions in each field.
+#[tactic(auto, unfolding(spec::specs::Refusals::id_byte))]
 fn is_id_byte(b: u8) -> bool
     ensures { result ≡ id_byte b }
 {
     match b {
         b':' | b'\\' => false,
-        33..=126 => true,
+        b'!'..=b'~' => true,
         _ => false,
     }
 }
 
 // Whether two bytes are an id, as in refusal 2.
+#[tactic(auto, unfolding(spec::specs::Refusals::id_bytes, spec::specs::Refusals::is_tc))]
 pub fn is_id(a: u8, b: u8) -> bool
     ensures { result ≡ id_bytes a b }
 {
-    if !is_id_byte(a) {
-        return false;
-    }
-    if !is_id_byte(b) {
-        return false;
-    }
-    match a {
-        b'.' => false,
-        b't' => b != b'c',
-        _ => true,
-    }
+    is_id_byte(a) && is_id_byte(b) && a != b'.' && (a != b't' || b != b'c')
 }
 
 // "A number of two or more digits starting with 0 is octal."
+#[tactic(auto, using(crate::proofs::Numbers::base_none, crate::proofs::Numbers::base_other, crate::proofs::Numbers::base_one, crate::proofs::Numbers::base_octal))]
 fn number_base(s: &[u8], at: usize) -> u32
     ensures { result ≡ number_base (field_at s.now at) }
 {
-    let Step::Byte(first, n) = field_byte(s, at) else {
-        return DECIMAL;
-    };
-    if first != b'0' {
-        return DECIMAL;
-    }
-    match field_byte(s, n) {
-        Step::Byte(_, _) => OCTAL,
-        Step::End => DECIMAL,
+    match field_byte(s, at) {
+        Some((b, n)) if b == b'0' && field_byte(s, n).is_some() => OCTAL,
+        _ => DECIMAL,
     }
 }
 
@@ -195,60 +161,55 @@ fn number_base(s: &[u8], at: usize) -> u32
 fn is_digit(b: u8, base: u32) -> bool
     ensures { result ≡ is_digit base b }
 {
-    if b < b'0' {
-        return false;
-    }
-    wide(b - b'0') < base
+    b >= b'0' && u32::from(b - b'0') < base
 }
 
 // "1 to 6 decimal digits of at most 65,535", in the number's base: "a digit 8 or 9 in [an octal one] is malformed".
+// An octal escape is read by itself: it ends after three digits, and not with the field, so one reader for both would be two in one.
 fn read_digits(s: &[u8], at: usize, base: u32) -> Digits
     requires { base ≡ number_base (field_at s.now at) }
     ensures { Numbers s.now at result }
 {
-    let mut i = at;
-    let mut k: usize = 0;
+    let mut stop = at;
+    let mut passed: usize = 0;
     let mut v: u32 = 0;
     loop {
-        match field_byte(s, i) {
-            Step::Byte(b, n) => {
-                if k == DIGIT_LIMIT {
-                    return Digits::Bad(i, k);
+        match field_byte(s, stop) {
+            Some((b, n)) => {
+                if passed == DIGIT_LIMIT || !is_digit(b, base) {
+                    return Digits {
+                        value: None,
+                        stop,
+                        passed,
+                    };
                 }
-                if !is_digit(b, base) {
-                    return Digits::Bad(i, k);
-                }
-                v = v * base + wide(b - b'0');
-                k += 1;
-                i = n;
+                v = v * base + u32::from(b - b'0');
+                passed += 1;
+                stop = n;
             }
-            Step::End => {
-                if k == 0 {
-                    return Digits::Bad(i, k);
-                }
-                if v > NUMBER_LIMIT {
-                    return Digits::Bad(i, k);
-                }
-                return Digits::Value(v, i, k);
-            }
+            None if passed == 0 || v > NUMBER_LIMIT => return Digits {
+                value: None,
+                stop,
+                passed,
+            },
+            None => return Digits {
+                value: Some(v),
+                stop,
+                passed,
+            },
         }
     }
-}
-
-// A byte as a number.
-fn wide(b: u8) -> u32
-    ensures { result ≡ b }
-{
-    b as u32
 }
 
 // "`#` and 1 to 6 decimal digits (number ...)."
 fn read_number(s: &[u8], at: usize, a: u8, b: u8) -> Stopped
     ensures { Stops s.now at 3 (content_reading a b (35 ∷ field_at s.now at)) result }
 {
-    match read_digits(s, at, number_base(s, at)) {
-        Digits::Value(v, i, k) => Stopped(FieldRead::Number(a, b, v), i, 3 + k),
-        Digits::Bad(i, k) => Stopped(FieldRead::Malformed, i, 3 + k),
+    let digits = read_digits(s, at, number_base(s, at));
+    let passed = 3 + digits.passed;
+    match digits.value {
+        Some(v) => Stopped(FieldRead::Number(a, b, v), digits.stop, passed),
+        None => Stopped(FieldRead::Malformed, digits.stop, passed),
     }
 }
 
@@ -257,9 +218,11 @@ fn read_string(s: &[u8], at: usize, a: u8, b: u8) -> Stopped
     requires { 3 ≤ at }
     ensures { Stops s.now at 3 (content_reading a b (61 ∷ field_at s.now at)) result }
 {
-    match measure_text(s, at) {
-        Measured::Good(n, i, k) => Stopped(FieldRead::String(a, b, at, n), i, 3 + k),
-        Measured::Bad(i, k) => Stopped(FieldRead::Malformed, i, 3 + k),
+    let text = measure_text(s, at);
+    let passed = 3 + text.passed;
+    match text.count {
+        Some(n) => Stopped(FieldRead::String(a, b, at, n), text.stop, passed),
+        None => Stopped(FieldRead::Malformed, text.stop, passed),
     }
 }
 
@@ -268,8 +231,8 @@ fn read_cancel(s: &[u8], at: usize, a: u8, b: u8) -> Stopped
     ensures { Stops s.now at 3 (content_reading a b (64 ∷ field_at s.now at)) result }
 {
     match field_byte(s, at) {
-        Step::Byte(_, n) => Stopped(FieldRead::Malformed, n, 4),
-        Step::End => Stopped(FieldRead::Cancel(a, b), at, 3),
+        Some((_, n)) => Stopped(FieldRead::Malformed, n, 4),
+        None => Stopped(FieldRead::Cancel(a, b), at, 3),
     }
 }
 
@@ -279,13 +242,13 @@ fn read_content(s: &[u8], at: usize, a: u8, b: u8) -> Stopped
     ensures { Stops s.now at 2 (content_reading a b (field_at s.now at)) result }
 {
     match field_byte(s, at) {
-        Step::Byte(c, n) => match c {
+        Some((c, n)) => match c {
             b'#' => read_number(s, n, a, b),
             b'=' => read_string(s, n, a, b),
             b'@' => read_cancel(s, n, a, b),
             _ => Stopped(FieldRead::Malformed, n, 3),
         },
-        Step::End => Stopped(FieldRead::Flag(a, b), at, 2),
+        None => Stopped(FieldRead::Flag(a, b), at, 2),
     }
 }
 
@@ -293,10 +256,10 @@ fn read_content(s: &[u8], at: usize, a: u8, b: u8) -> Stopped
 fn read_capability(s: &[u8], at: usize) -> Stopped
     ensures { Stops s.now at 0 (other_reading (field_at s.now at)) result }
 {
-    let Step::Byte(a, i) = field_byte(s, at) else {
+    let Some((a, i)) = field_byte(s, at) else {
         return Stopped(FieldRead::Malformed, at, 0);
     };
-    let Step::Byte(b, j) = field_byte(s, i) else {
+    let Some((b, j)) = field_byte(s, i) else {
         return Stopped(FieldRead::Malformed, i, 1);
     };
     if !is_id(a, b) {
@@ -310,8 +273,8 @@ fn read_named(s: &[u8], at: usize) -> Stopped
     ensures { Stops s.now at 0 (name_reading (field_at s.now at)) result }
 {
     match after_start(s, at, b"tc=") {
-        AfterStart::At(n) => read_link_name(s, n),
-        AfterStart::Other => read_capability(s, at),
+        Some(n) => read_link_name(s, n),
+        None => read_capability(s, at),
     }
 }
 
@@ -320,27 +283,31 @@ fn read_from(s: &[u8], at: usize) -> Stopped
     ensures { ReadUpTo s.now at result }
 {
     match field_byte(s, at) {
-        Step::Byte(a, n) => match a {
+        Some((a, n)) => match a {
             b'\t' | b' ' => read_blanks(s, n),
             b'.' => Stopped(FieldRead::Ignored, n, 1),
             _ => read_named(s, at),
         },
-        Step::End => Stopped(FieldRead::Ignored, at, 0),
+        None => Stopped(FieldRead::Ignored, at, 0),
     }
 }
 
 // The field at a place and the place behind it. Its end is looked for from where its reader stopped, so that no byte is read again for it.
-pub fn next_field(s: &[u8], at: usize) -> NextField
+pub fn next_field(s: &[u8], at: usize) -> Option<Field>
     ensures { FieldsFrom s.now at result }
 {
     let Stopped(read, i, passed) = read_from(s, at);
     match next_bounds(s, i) {
-        Bounds::Field(n, next) => NextField::Field(read, passed + n, next),
-        Bounds::Nothing => {
-            if passed == 0 {
-                return NextField::Nothing;
-            }
-            NextField::Field(read, passed, s.len())
-        }
+        Some(rest) => Some(Field {
+            read,
+            length: passed + rest.length,
+            next: rest.next,
+        }),
+        None if passed == 0 => None,
+        None => Some(Field {
+            read,
+            length: passed,
+            next: s.len(),
+        }),
     }
 }

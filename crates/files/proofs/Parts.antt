@@ -1,5 +1,6 @@
 -- The ends one by one, the bytes of a file, and the search file by file.
 -- Assumes nothing.
+use Rattle.std.specs.Prelude.{Some, None}
 use Prim.Native.Nat.{ℕ, zero, suc, ◌+◌, ◌-◌, ◌≤◌, ◌<◌}
 use mathlib.Core.Path.{◌≡◌, refl, ◌∙◌, sym}
 use mathlib.Core.Bool.{Bool, true, false}
@@ -12,8 +13,6 @@ use lib.Seq.{take_all, drop-cons}
 use Rattle.laws.proofs.FileParts.{file_is}
 use Rattle.spec.specs.Lines.{find_line}
 use Rattle.spec.specs.Files.{files, rising, good_ends, cut_at, contents, file_start, file_at, or_later, locate, find_from}
-use Rattle.spec.specs.declared.Found.TheVariants.{At as FoundAt, Nothing as NotFound}
-use Rattle.spec.specs.declared.Located.TheVariants.{At, Nothing}
 
 -- ---- ends
 
@@ -104,7 +103,7 @@ start-next db ends k i e = rw (e, add-one i)
 -- ---- the search
 
 module _ (fs : List (List ℕ)) (name : List ℕ) (k : ℕ) where
-  pub find-end : length fs ≤ k → find_from fs k name ≡ Nothing
+  pub find-end : length fs ≤ k → find_from fs k name ≡ None
   unfolding find_from locate
   find-end h = rw (drop_of_length-le fs h)
 
@@ -112,8 +111,8 @@ module _ (fs : List (List ℕ)) (name : List ℕ) (k : ℕ) where
   unfolding find_from locate file_at
   find-next h = rw (drop-cons fs k [] h, add-one k)
 
-  pub find_here : (p : ℕ) → k < length fs → find_line (file_at fs k) name ≡ FoundAt p → find_from fs k name ≡ At (record { file = k; at = p })
+  pub find_here : (p : ℕ) → k < length fs → find_line (file_at fs k) name ≡ Some p → find_from fs k name ≡ Some (record { file = k; at = p })
   find_here p h e = find-next h ∙ rw e
 
-  pub find_on : k < length fs → find_line (file_at fs k) name ≡ NotFound → find_from fs k name ≡ find_from fs (k + 1) name
+  pub find_on : k < length fs → find_line (file_at fs k) name ≡ None → find_from fs k name ≡ find_from fs (k + 1) name
   find_on h e = find-next h ∙ rw e

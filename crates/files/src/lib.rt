@@ -6,28 +6,21 @@ ghost use Rattle.std.specs.Prelude.{◌≡◌, ◌≤◌, length};
 ghost use Rattle.spec.specs.Files.{files, good_ends, contents, file_start, file_at, find_from};
 
 use name_search::find_line;
-use spec::{Found, Located, Location, MOST_FILES};
+use spec::{Location, MOST_FILES};
 
 // Refusal 16: "ends that fall, or pass the buffer, or more than eight".
 pub fn are_good_ends(db: &[u8], ends: &[usize]) -> bool
     ensures { result ≡ good_ends (files db.now ends.now) }
 {
-    let n = ends.len();
-    if n > MOST_FILES {
+    if ends.len() > MOST_FILES {
         return false;
     }
     let mut from = 0;
-    let mut i = 0;
-    while i < n {
-        let end = ends[i];
-        if end < from {
-            return false;
-        }
-        if end > db.len() {
+    for &end in ends {
+        if end < from || end > db.len() {
             return false;
         }
         from = end;
-        i += 1;
     }
     true
 }
@@ -56,10 +49,7 @@ pub fn file<'a>(db: &'a [u8], ends: &[usize], k: u8) -> &'a [u8]
     }
     let from = file_start(db, ends, k);
     let to = ends[i];
-    if to <= from {
-        return &db[0..0];
-    }
-    if from > db.len() {
+    if to <= from || from > db.len() {
         return &db[0..0];
     }
     if to > db.len() {
@@ -69,16 +59,14 @@ pub fn file<'a>(db: &'a [u8], ends: &[usize], k: u8) -> &'a [u8]
 }
 
 // The first line that has the name, in the files from a file onwards.
-pub fn find_from(db: &[u8], ends: &[usize], from: u8, name: &[u8]) -> Located
+pub fn find_from(db: &[u8], ends: &[usize], from: u8, name: &[u8]) -> Option<Location>
     requires { length ends.now ≤ 8 }
     ensures { result ≡ find_from (contents (files db.now ends.now)) from name.now }
 {
-    let mut k = from;
-    while (k as usize) < ends.len() {
-        match find_line(file(db, ends, k), name) {
-            Found::At(at) => return Located::At(Location { file: k, at }),
-            Found::Nothing => k += 1,
+    for k in from..ends.len() as u8 {
+        if let Some(at) = find_line(file(db, ends, k), name) {
+            return Some(Location { file: k, at });
         }
     }
-    Located::Nothing
+    None
 }

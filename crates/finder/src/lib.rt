@@ -1,23 +1,17 @@
 // The finder of document 02, Ask 8: it is fed a database in blocks and collects the joined line of the first description with the asked
-// name. Here the state goes in by value and comes back; the C functions are lent it, and change it where it stands.
+// name. The state is lent, and changed where it stands; a call that is refused alters nothing.
 #![tactic(auto)]
 
-ghost use Rattle.std.specs.Prelude.{◌≡◌, ◌≤◌, length};
+ghost use Rattle.std.specs.Prelude.{◌≡◌, ◌≢◌, ◌≤◌, length, MatchResult};
 ghost use Rattle.spec.specs.Answers.{written_report};
+ghost use Rattle.spec.specs.declared.Refusal.TheVariants.{InvalidState};
+ghost use Rattle.finder.specs.Answers.{refused_number};
 ghost use Rattle.spec.specs.Finder.{begun, with_zeros, opened_finder, open_refusal, turn, feed_turn, end_turn, line_copied, finder_outcome, finder_report};
 
 use identifiers::is_good_name;
-use line_collector::{BLANK, COMPLETE, Place, feed_named, finish_named};
+use line_collector::{COMPLETE, LINE_START, Place, feed_named, finish_named};
+use spec::Refusal;
 use spec::finder::{Finder, LONGEST_LINE, LineState};
-use spec::{Refusal, Written};
-use stores::put_bytes;
-
-// What a call gives: the finder afterwards, and the refusal's number, or 0.
-#[derive(Clone, Copy)]
-pub struct Turn {
-    pub finder: Finder,
-    pub refusal: u32,
-}
 
 // A finder before its first byte: with a name of at most 64 bytes, or one that has ended.
 fn begin(name: &[u8], ended: u8) -> Finder
@@ -25,120 +19,92 @@ fn begin(name: &[u8], ended: u8) -> Finder
     ensures { result ≡ begun (length name.now) (with_zeros name.now) ended }
 {
     let mut bytes = [0u8; 64];
-    put_bytes(&mut bytes, 0, name);
-    let line = LineState {
-        stage: BLANK,
-        matched: 0,
-        count: 0,
-    };
+    bytes[..name.len()].copy_from_slice(name);
     Finder {
-        line: line,
+        line: LINE_START,
         held: 0,
-        ended: ended,
+        ended,
         size: name.len() as u16,
         name: bytes,
     }
 }
 
-pub fn open(name: &[u8]) -> Turn
-    ensures { (result.finder ≡ opened_finder name.now) × (result.refusal ≡ open_refusal name.now) }
+// The finder comes also where the name is refused.
+#[tactic(auto, unfolding(spec::specs::Finder::opened_finder, spec::specs::Finder::open_refusal))]
+pub fn open(name: &[u8]) -> (Finder, Result<(), Refusal>)
+    ensures { (result.0 ≡ opened_finder name.now) × (refused_number result.1 ≡ open_refusal name.now) }
 {
     if is_good_name(name) {
-        let finder = begin(name, 0);
-        return Turn {
-            finder: finder,
-            refusal: 0,
-        };
+        return (begin(name, 0), Ok(()));
     }
-    let closed = begin(&name[..0], 1);
-    Turn {
-        finder: closed,
-        refusal: Refusal::BadName.number() as u32,
-    }
+    (begin(b"", 1), Err(Refusal::BadName))
 }
 
-pub fn feed(f: Finder, block: &[u8], text: &mut [u8]) -> Turn
-    ensures { turn result.refusal result.finder text.new ≡ feed_turn f text.old block.now }
+// Where a finder stands, unless it has ended.
+fn standing(finder: &Finder) -> Result<Place, Refusal>
+    ensures { MatchResult result
+        (λ p. (finder.now.ended ≡ 0) × (p.held ≡ finder.now.held) × (p.line ≡ finder.now.line))
+        (λ r. (finder.now.ended ≢ 0) × (r ≡ InvalidState)) }
 {
-    if f.ended != 0 {
-        return Turn {
-            finder: f,
-            refusal: Refusal::InvalidState.number() as u32,
-        };
+    if finder.ended != 0 {
+        return Err(Refusal::InvalidState);
     }
-    let name = f.name;
-    let line = f.line;
-    let p = Place {
-        held: f.held,
-        line: line,
-    };
-    let q = feed_named(&name, f.size as usize, p, block, text);
-    let reached = q.line;
-    let mut g = f;
-    g.held = q.held;
-    g.line = reached;
-    Turn {
-        finder: g,
-        refusal: 0,
-    }
+    Ok(Place {
+        held: finder.held,
+        line: finder.line,
+    })
+}
+
+#[tactic(auto, unfolding(spec::specs::Finder::feed_turn))]
+pub fn feed(finder: &mut Finder, block: &[u8], text: &mut [u8]) -> Result<(), Refusal>
+    ensures { turn (refused_number result) finder.new text.new ≡ feed_turn finder.old text.old block.now }
+{
+    let p = standing(finder)?;
+    let q = feed_named(&finder.name, finder.size as usize, p, block, text);
+    finder.held = q.held;
+    finder.line = q.line;
+    Ok(())
 }
 
 // The end of the database is declared.
-pub fn end(f: Finder, text: &mut [u8]) -> Turn
-    ensures { turn result.refusal result.finder text.new ≡ end_turn f text.old }
+#[tactic(auto, unfolding(spec::specs::Finder::end_turn))]
+pub fn end(finder: &mut Finder, text: &mut [u8]) -> Result<(), Refusal>
+    ensures { turn (refused_number result) finder.new text.new ≡ end_turn finder.old text.old }
 {
-    if f.ended != 0 {
-        return Turn {
-            finder: f,
-            refusal: Refusal::InvalidState.number() as u32,
-        };
-    }
-    let name = f.name;
-    let line = f.line;
-    let p = Place {
-        held: f.held,
-        line: line,
-    };
-    let reached = finish_named(&name, f.size as usize, p, text);
-    let mut g = f;
-    g.held = 0;
-    g.ended = 1;
-    g.line = reached;
-    Turn {
-        finder: g,
-        refusal: 0,
-    }
+    let p = standing(finder)?;
+    finder.line = finish_named(&finder.name, finder.size as usize, p, text);
+    finder.held = 0;
+    finder.ended = 1;
+    Ok(())
 }
 
 // The first n bytes of a finder's text are the line: they go to the start of the output, if the text had room for them and the output has.
-fn copy_line(n: usize, text: &[u8], out: &mut [u8]) -> Written
+fn copy_line(n: usize, text: &[u8], out: &mut [u8]) -> Result<usize, Refusal>
     ensures { (result ≡ (line_copied n text.now out.old).answer)
         × (out.new ≡ (line_copied n text.now out.old).buffer) }
 {
-    if n > text.len() {
-        return Written::Refused(Refusal::NoRoom);
+    if n > text.len() || n > out.len() {
+        return Err(Refusal::NoRoom);
     }
-    if n > out.len() {
-        return Written::Refused(Refusal::NoRoom);
-    }
-    put_bytes(out, 0, &text[..n]);
-    Written::Count(n)
+    out[..n].copy_from_slice(&text[..n]);
+    Ok(n)
 }
 
-pub fn answer(f: Finder, text: &[u8], out: &mut [u8]) -> Written
+#[tactic(auto, unfolding(spec::specs::Finder::finder_outcome))]
+pub fn answer(f: Finder, text: &[u8], out: &mut [u8]) -> Result<usize, Refusal>
     ensures { (result ≡ (finder_outcome f text.now out.old).answer)
         × (out.new ≡ (finder_outcome f text.now out.old).buffer)
         × (written_report result ≡ finder_report f text.now out.old) }
 {
     if f.ended == 0 {
-        return Written::Refused(Refusal::InvalidState);
+        return Err(Refusal::InvalidState);
     }
-    let line = f.line;
-    if line.stage != COMPLETE {
-        return Written::Refused(Refusal::UnknownName);
+    let LineState { stage, count, .. } = f.line;
+    if stage != COMPLETE {
+        return Err(Refusal::UnknownName);
     }
-    if line.count > LONGEST_LINE {
-        return Written::Refused(Refusal::ChainTooLarge);
+    if count > LONGEST_LINE {
+        return Err(Refusal::ChainTooLarge);
     }
-    copy_line(line.count as usize, text, out)
+    copy_line(count as usize, text, out)
 }

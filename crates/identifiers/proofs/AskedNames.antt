@@ -1,16 +1,17 @@
 -- Asked names and ids as they are tested, byte by byte.
 -- Assumes nothing.
-use Prim.Native.Nat.{ℕ, ◌+◌, ◌≤◌, ◌<◌}
+use Prim.Native.Nat.{ℕ, ◌≤◌, ◌<◌}
 use mathlib.Core.Path.{◌≡◌, refl, sym}
-use mathlib.Core.Bool.{Bool, true, false}
+use mathlib.Core.Bool.{Bool, true, false, ◌&&◌}
 use mathlib.Core.List.{List, [], ◌∷◌}
 use native.Mathlib.Omega.{arith}
 use borrow.Author.Tests.{le-leb, lt-leb}
 use lib.Dec.{leb}
-use lib.ListN.{length, drop, get_or, drop_of_length-le}
+use lib.ListN.{length, get_or}
+use Rattle.std.specs.List.{list_all}
+use Rattle.spec.specs.Choice.{both}
 use Rattle.spec.specs.Refusals.{name_byte, name_bytes, good_name, id_bytes, good_id}
 use Rattle.laws.proofs.Tests.{clash, both_false}
-use Rattle.laws.proofs.TextSteps.{drop-next}
 
 -- ---- ids
 
@@ -44,6 +45,15 @@ id_length (a ∷ b ∷ c ∷ l) h = clash (sym h)
 
 -- ---- names
 
+bytes_all : (l : List ℕ) → name_bytes l ≡ list_all name_byte l
+unfolding name_bytes
+bytes_all [] = refl
+bytes_all (b ∷ l) = rw (bytes_all l) (go (name_byte b))
+  where
+    go : (x : Bool) → both x (list_all name_byte l) ≡ (x && list_all name_byte l)
+    go true = refl
+    go false = refl
+
 module _ (n : List ℕ) where
   pub name_empty : length n < 1 → good_name n ≡ false
   unfolding good_name
@@ -53,22 +63,6 @@ module _ (n : List ℕ) where
   unfolding good_name
   name_long h = rw (lt-leb (length n) 64 h, both_false (leb 1 (length n)))
 
-  -- the bytes of a name from a place on
-  unfoldable pub bytes_from : ℕ → Bool
-  bytes_from i = name_bytes (drop i n)
-
-  pub name-bytes : 1 ≤ length n → length n ≤ 64 → good_name n ≡ bytes_from 0
-  unfolding good_name bytes_from
-  name-bytes h k = rw (le-leb 1 (length n) h, le-leb (length n) 64 k)
-
-  pub bytes-end : (i : ℕ) → length n ≤ i → bytes_from i ≡ true
-  unfolding bytes_from name_bytes
-  bytes-end i h = rw (drop_of_length-le n h)
-
-  pub bytes-bad : (i : ℕ) → i < length n → name_byte (get_or n i 0) ≡ false → bytes_from i ≡ false
-  unfolding bytes_from name_bytes
-  bytes-bad i h e = rw (drop-next n i h, e)
-
-  pub bytes_on : (i : ℕ) → i < length n → name_byte (get_or n i 0) ≡ true → bytes_from i ≡ bytes_from (i + 1)
-  unfolding bytes_from name_bytes
-  bytes_on i h e = rw (drop-next n i h, e)
+  pub name_within : 1 ≤ length n → length n ≤ 64 → good_name n ≡ list_all name_byte n
+  unfolding good_name
+  name_within h k = rw (le-leb 1 (length n) h, le-leb (length n) 64 k) (bytes_all n)

@@ -11,28 +11,17 @@ const MOST_NAME_BYTES: usize = 64;
 pub fn is_good_name(name: &[u8]) -> bool
     ensures { result ≡ good_name name.now }
 {
-    let n = name.len();
-    if n < 1 {
-        return false;
+    match name.len() {
+        1..=MOST_NAME_BYTES => name.iter().all(|b| is_name_byte(*b)),
+        _ => false,
     }
-    if n > MOST_NAME_BYTES {
-        return false;
-    }
-    let mut i = 0;
-    while i < n {
-        if !is_name_byte(name[i]) {
-            return false;
-        }
-        i += 1;
-    }
-    true
 }
 
 pub fn is_good_id(id: &[u8]) -> bool
     ensures { result ≡ good_id id.now }
 {
-    if id.len() != 2 {
-        return false;
+    match id {
+        [a, b] => is_id(*a, *b),
+        _ => false,
     }
-    is_id(id[0], id[1])
 }

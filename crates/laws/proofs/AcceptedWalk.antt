@@ -1,5 +1,6 @@
 -- An accepted walk, line by line: each line is new and not malformed, it fits, and its link leads to the next one.
 -- Assumes nothing.
+use Rattle.std.specs.Prelude.{Option, Some, None}
 use Prim.Native.Nat.{ℕ, zero, suc, ◌+◌, ◌≤◌}
 use mathlib.Core.Path.{◌≡◌, refl, ◌∙◌, ap, sym}
 use mathlib.Core.Bool.{Bool, true, false}
@@ -14,8 +15,6 @@ use Rattle.spec.specs.Lists.{holds}
 use Rattle.spec.specs.Fields.{fields_of, line_size, Verdict, malformed_line, no_link, link_to, judge, verdict}
 use Rattle.spec.specs.Chain.{Chain, broken, chain, visited, link_target, entered, follow, walk}
 use Rattle.spec.specs.declared.Location.{Location}
-use Rattle.spec.specs.declared.Located.{Located}
-use Rattle.spec.specs.declared.Located.TheVariants.{At, Nothing}
 use Rattle.spec.specs.declared.Refusal.{Refusal}
 use Rattle.spec.specs.declared.Refusal.TheVariants.{Cycle, ChainTooLarge, LostLink, UnknownName}
 
@@ -25,12 +24,12 @@ sizes db [] = 0
 sizes db (p ∷ ps) = line_size (line_of db p) + sizes db ps
 
 -- With room for so many descriptions, lines passed and their size: from what is found the walk goes along these lines and is accepted.
-pub data Way (db : List (List ℕ)) : ℕ → List Location → ℕ → Located → List Location → Type 0 where
+pub data Way (db : List (List ℕ)) : ℕ → List Location → ℕ → Option Location → List Location → Type 0 where
   last : {n : ℕ} {seen : List Location} {size : ℕ} (p : Location)
-      → visited p seen ≡ false → verdict (line_of db p) ≡ no_link → size + line_size (line_of db p) ≤ 16384 → Way db (suc n) seen size (At p) (p ∷ [])
+      → visited p seen ≡ false → verdict (line_of db p) ≡ no_link → size + line_size (line_of db p) ≤ 16384 → Way db (suc n) seen size (Some p) (p ∷ [])
   next : {n : ℕ} {seen : List Location} {size : ℕ} (p : Location) (name : List ℕ) {ps : List Location}
       → visited p seen ≡ false → verdict (line_of db p) ≡ link_to name → size + line_size (line_of db p) ≤ 16384
-      → Way db n (seen ++ p ∷ []) (size + line_size (line_of db p)) (find_from db p.file name) ps → Way db (suc n) seen size (At p) (p ∷ ps)
+      → Way db n (seen ++ p ∷ []) (size + line_size (line_of db p)) (find_from db p.file name) ps → Way db (suc n) seen size (Some p) (p ∷ ps)
 
 has_colon : (l : List ℕ) (v : Verdict) → verdict l ≡ v → (v ≡ malformed_line → ⊥) → holds 58 l ≡ true
 unfolding verdict
@@ -43,13 +42,13 @@ has_colon l v e n = go (holds 58 l) e
 module _ (db : List (List ℕ)) where
   -- ---- a walk that is accepted is such a way, and the other way round
 
-  abbrev Went : ℕ → List Location → ℕ → Located → List Location → Type 0
+  abbrev Went : ℕ → List Location → ℕ → Option Location → List Location → Type 0
   Went n seen size found ps = (qs : List Location) × (ps ≡ seen ++ qs) × Way db n seen size found qs
 
   entered_way : (n : ℕ) (seen : List Location) (size : ℕ) (p : Location) (v : Verdict) (big : Bool) (more : Chain) (ps : List Location)
       → visited p seen ≡ false → verdict (line_of db p) ≡ v → ltb 16384 (size + line_size (line_of db p)) ≡ big
       → (more ≡ chain ps → Went n (seen ++ p ∷ []) (size + line_size (line_of db p)) (link_target db p v) ps)
-      → entered (seen ++ p ∷ []) v big more ≡ chain ps → Went (suc n) seen size (At p) ps
+      → entered (seen ++ p ∷ []) v big more ≡ chain ps → Went (suc n) seen size (Some p) ps
   unfolding entered link_target
   entered_way n seen size p malformed_line big more ps f e b ih h = let z : ◌≡◌ {A = ℕ} 0 1 = cc in absurd (omega arith)
   entered_way n seen size p no_link true more ps f e b ih h = let z : ◌≡◌ {A = ℕ} 0 1 = cc in absurd (omega arith)
@@ -61,17 +60,17 @@ module _ (db : List (List ℕ)) where
       let k = ih h in
       (p ∷ k.0, k.1 ∙ append_assoc seen (p ∷ []) k.0, next p name f e (ltb-false 16384 (size + line_size (line_of db p)) b) k.2)
 
-  way_of : (n : ℕ) (seen : List Location) (size : ℕ) (missing : Refusal) (found : Located) (ps : List Location)
+  way_of : (n : ℕ) (seen : List Location) (size : ℕ) (missing : Refusal) (found : Option Location) (ps : List Location)
       → follow db n seen size missing found ≡ chain ps → Went n seen size found ps
   unfolding follow
-  way_of zero seen size missing Nothing ps h = let z : ◌≡◌ {A = ℕ} 0 1 = cc in absurd (omega arith)
-  way_of zero seen size missing (At p) ps h = go (visited p seen) h
+  way_of zero seen size missing None ps h = let z : ◌≡◌ {A = ℕ} 0 1 = cc in absurd (omega arith)
+  way_of zero seen size missing (Some p) ps h = go (visited p seen) h
     where
-      go : (x : Bool) → pick x (broken Cycle) (broken ChainTooLarge) ≡ chain ps → Went zero seen size (At p) ps
+      go : (x : Bool) → pick x (broken Cycle) (broken ChainTooLarge) ≡ chain ps → Went zero seen size (Some p) ps
       go true h = let z : ◌≡◌ {A = ℕ} 0 1 = cc in absurd (omega arith)
       go false h = let z : ◌≡◌ {A = ℕ} 0 1 = cc in absurd (omega arith)
-  way_of (suc n) seen size missing Nothing ps h = let z : ◌≡◌ {A = ℕ} 0 1 = cc in absurd (omega arith)
-  way_of (suc n) seen size missing (At p) ps h =
+  way_of (suc n) seen size missing None ps h = let z : ◌≡◌ {A = ℕ} 0 1 = cc in absurd (omega arith)
+  way_of (suc n) seen size missing (Some p) ps h =
       go (visited p seen) refl (way_of n (seen ++ p ∷ []) (size + line_size (line_of db p)) LostLink (link_target db p (verdict (line_of db p))) ps) h
     where
       more : Chain
@@ -80,11 +79,11 @@ module _ (db : List (List ℕ)) where
       go : (x : Bool) → visited p seen ≡ x
           → (more ≡ chain ps → Went n (seen ++ p ∷ []) (size + line_size (line_of db p)) (link_target db p (verdict (line_of db p))) ps)
           → pick x (broken Cycle) (entered (seen ++ p ∷ []) (verdict (line_of db p)) (ltb 16384 (size + line_size (line_of db p))) more) ≡ chain ps
-          → Went (suc n) seen size (At p) ps
+          → Went (suc n) seen size (Some p) ps
       go true f ih h = let z : ◌≡◌ {A = ℕ} 0 1 = cc in absurd (omega arith)
       go false f ih h = entered_way n seen size p (verdict (line_of db p)) _ more ps f refl refl ih h
 
-  follow_way : {n : ℕ} {seen : List Location} {size : ℕ} {found : Located} {ps : List Location} → Way db n seen size found ps
+  follow_way : {n : ℕ} {seen : List Location} {size : ℕ} {found : Option Location} {ps : List Location} → Way db n seen size found ps
       → (missing : Refusal) → follow db n seen size missing found ≡ chain (seen ++ ps)
   unfolding follow entered link_target
   follow_way (last {size = size} p f e h) missing = rw (f, e, le-ltb 16384 (size + line_size (line_of db p)) h)
@@ -101,15 +100,15 @@ module _ (db : List (List ℕ)) where
 
   -- ---- what an accepted walk has
 
-  pub some-line : {n : ℕ} {seen : List Location} {size : ℕ} {found : Located} {ps : List Location} → Way db n seen size found ps → ps ≡ [] → ⊥
+  pub some-line : {n : ℕ} {seen : List Location} {size : ℕ} {found : Option Location} {ps : List Location} → Way db n seen size found ps → ps ≡ [] → ⊥
   some-line (last p f e h) q = let z : ◌≡◌ {A = ℕ} 0 1 = cc in absurd (omega arith)
   some-line (next p name f e h w) q = let z : ◌≡◌ {A = ℕ} 0 1 = cc in absurd (omega arith)
 
-  pub way_count : {n : ℕ} {seen : List Location} {size : ℕ} {found : Located} {ps : List Location} → Way db n seen size found ps → length ps ≤ n
+  pub way_count : {n : ℕ} {seen : List Location} {size : ℕ} {found : Option Location} {ps : List Location} → Way db n seen size found ps → length ps ≤ n
   way_count (last p f e h) = omega arith
   way_count (next p name f e h w) = omega (arith, way_count w)
 
-  pub way_fits : {n : ℕ} {seen : List Location} {size : ℕ} {found : Located} {ps : List Location} → Way db n seen size found ps
+  pub way_fits : {n : ℕ} {seen : List Location} {size : ℕ} {found : Option Location} {ps : List Location} → Way db n seen size found ps
       → size + sizes db ps ≤ 16384
   unfolding sizes
   way_fits (last p f e h) = omega arith
@@ -144,7 +143,7 @@ no_end qs l rs e =
     omega (arith, length-append qs (l ∷ rs))
 
 -- With fewer lines passed and more room the walk is accepted too.
-lighter : (db : List (List ℕ)) {n : ℕ} {seen : List Location} {size : ℕ} {found : Located} {ps : List Location} → Way db n seen size found ps
+lighter : (db : List (List ℕ)) {n : ℕ} {seen : List Location} {size : ℕ} {found : Option Location} {ps : List Location} → Way db n seen size found ps
     → (m : ℕ) (extra fewer : List Location) (less : ℕ) → seen ≡ extra ++ fewer → less ≤ size → n ≤ m → Way db m fewer less found ps
 lighter db (last p f e h) zero extra fewer less q l r = absurd (omega arith)
 lighter db (last p f e h) (suc m) extra fewer less q l r = last {size = less} p (new_right p extra fewer (rw (← q) f)) e (omega arith)
@@ -166,7 +165,7 @@ pub record Reached (db : List (List ℕ)) (n : ℕ) (passed : List Location) (l 
   pub way : Way db room passed size (find_from db from name) (l ∷ after)
 
 module _ (db : List (List ℕ)) (l : Location) (after : List Location) where
-  pub reach : {n : ℕ} {seen : List Location} {size : ℕ} {found : Located} {ps : List Location} → Way db n seen size found ps
+  pub reach : {n : ℕ} {seen : List Location} {size : ℕ} {found : Option Location} {ps : List Location} → Way db n seen size found ps
       → (before : List Location) (from : ℕ) (name : List ℕ) → found ≡ find_from db from name → ps ≡ before ++ l ∷ after → Reached db n (seen ++ before) l after
   reach {n} {seen} {size} w [] from name g e =
       record { room = n; fewer = omega arith; size = size; from = from; name = name; way = rw (append-nil seen, ← g, ← e) w }
@@ -181,29 +180,29 @@ module _ (db : List (List ℕ)) (l : Location) (after : List Location) where
       record { room = k.room; fewer = omega (arith, k.fewer); size = k.size; from = k.from; name = k.name; way = rw (← j) k.way }
 
   -- what the walk says of the line itself
-  pub record Stands (seen : List Location) (size : ℕ) (found : Located) : Type 0 where
-    pub at : found ≡ At l
+  pub record Stands (seen : List Location) (size : ℕ) (found : Option Location) : Type 0 where
+    pub at : found ≡ Some l
     pub new : visited l seen ≡ false
     pub colon : holds 58 (line_of db l) ≡ true
     pub fits : size + line_size (line_of db l) + sizes db after ≤ 16384
 
-  pub stands : {n : ℕ} {seen : List Location} {size : ℕ} {found : Located} {ps : List Location} → Way db n seen size found ps → ps ≡ l ∷ after
+  pub stands : {n : ℕ} {seen : List Location} {size : ℕ} {found : Option Location} {ps : List Location} → Way db n seen size found ps → ps ≡ l ∷ after
       → Stands seen size found
   unfolding sizes
   stands (last p f v h) e =
       let i : p ≡ l = cc in
       let t : after ≡ [] = cc in
       let c = has_colon (line_of db p) no_link v (λ x. let z : ◌≡◌ {A = ℕ} 0 1 = cc in absurd (omega arith)) in
-      record { at = ap At i; new = rw (← i) f; colon = rw (← i) c; fits = rw (← i, t) (omega arith) }
+      record { at = ap Some i; new = rw (← i) f; colon = rw (← i) c; fits = rw (← i, t) (omega arith) }
   stands (next p name {ps = ps} f v h w) e =
       let i : p ≡ l = cc in
       let t : ps ≡ after = cc in
       let c = has_colon (line_of db p) (link_to name) v (λ x. let z : ◌≡◌ {A = ℕ} 0 1 = cc in absurd (omega arith)) in
-      record { at = ap At i; new = rw (← i) f; colon = rw (← i) c; fits = rw (← i, ← t) (way_fits db w) }
+      record { at = ap Some i; new = rw (← i) f; colon = rw (← i) c; fits = rw (← i, ← t) (way_fits db w) }
 
   -- and of its link: the walk from there is accepted on its own
   pub onward : (linked : List ℕ) → verdict (line_of db l) ≡ link_to linked
-      → {n : ℕ} {seen : List Location} {size : ℕ} {found : Located} {ps : List Location} → Way db n seen size found ps → ps ≡ l ∷ after → n ≤ 32
+      → {n : ℕ} {seen : List Location} {size : ℕ} {found : Option Location} {ps : List Location} → Way db n seen size found ps → ps ≡ l ∷ after → n ≤ 32
       → Way db 32 [] 0 (find_from db l.file linked) after
   onward linked b (last p f v h) e r =
       let i : p ≡ l = cc in

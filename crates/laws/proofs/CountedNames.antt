@@ -1,6 +1,7 @@
 -- The search that counts: it finds a name exactly where the search for a line does, it counts list by list, and there are not more names
 -- than bytes and files.
 -- Assumes nothing.
+use Rattle.std.specs.Prelude.{Option, Some, None}
 use Prim.Native.Nat.{ℕ, suc, ◌+◌, ◌-◌, ◌≤◌}
 use mathlib.Core.Path.{◌≡◌, refl}
 use mathlib.Core.Bool.{Bool, true, false, not}
@@ -11,41 +12,22 @@ use lib.Dec.{eqb, leb}
 use lib.ListN.{length, take, drop, length-append, length-take, length-drop}
 use Rattle.spec.specs.Choice.{pick, both, either, between}
 use Rattle.spec.specs.Lists.{upto, later_pieces, same, among}
-use Rattle.spec.specs.Lines.{
-  Text,
-  end,
-  byte,
-  join,
-  text_at,
-  Line,
-  line_text,
-  later_lines,
-  lines_from,
-  is_ignored,
-  first_name,
-  later_names,
-  has_name,
-  find,
-  find_line,
-}
+use Rattle.spec.specs.Lines.{Text, end, byte, join, text_at, Line, line_text, later_lines, lines_from, is_ignored, later_names, has_name, find, find_line}
 use Rattle.spec.specs.Files.{Files, rising, good_ends, cut_at, contents, or_later, locate, find_from}
 use Rattle.spec.specs.Search.{split_names, line_names, names_in, file_names, all_names, counted, compared}
-use Rattle.spec.specs.declared.Found.{Found}
-use Rattle.spec.specs.declared.Found.TheVariants.{At as FoundAt, Nothing as NotFound}
-use Rattle.spec.specs.declared.Located.{Located}
-use Rattle.spec.specs.declared.Located.TheVariants.{At, Nothing}
 use Rattle.laws.proofs.Tests.{pick_all, both_true}
 use Rattle.laws.proofs.FileParts.{good-rising}
+use Rattle.spec.specs.declared.Location.{Location}
 
 -- ---- found where the search finds a line
 
-abbrev pub is_found : Found → Bool
-is_found (FoundAt p) = true
-is_found NotFound = false
+abbrev pub is_found : Option ℕ → Bool
+is_found (Some p) = true
+is_found None = false
 
-abbrev pub is_located : Located → Bool
-is_located (At l) = true
-is_located Nothing = false
+abbrev pub is_located : Option Location → Bool
+is_located (Some l) = true
+is_located None = false
 
 pub among-append : (n : List ℕ) (a b : List (List ℕ)) → among n (a ++ b) ≡ either (among n a) (among n b)
 unfolding among
@@ -63,7 +45,7 @@ find-names name (l ∷ ls) =
     rw (among-append name (line_names l.text) (names_in ls)) (go (is_ignored l.text) (has_name name l.text) refl (find-names name ls))
   where
     go : (x y : Bool) → has_name name l.text ≡ y → is_found (find name ls) ≡ among name (names_in ls)
-        → is_found (pick (both (not x) y) (FoundAt l.start) (find name ls))
+        → is_found (pick (both (not x) y) (Some l.start) (find name ls))
         ≡ either (among name (pick x [] (split_names l.text))) (among name (names_in ls))
     go true y e ih = unfold among in ih
     go false true e ih = rw e
@@ -76,10 +58,10 @@ locate-names name k (f ∷ fs) =
     rw (among-append name (names_in (lines_from 0 (text_at f 0))) (all_names fs), ← find-names name (lines_from 0 (text_at f 0)))
     (go (find name (lines_from 0 (text_at f 0))) (locate-names name (k + 1) fs))
   where
-    go : (x : Found) → is_located (locate (k + 1) fs name) ≡ among name (all_names fs)
+    go : (x : Option ℕ) → is_located (locate (k + 1) fs name) ≡ among name (all_names fs)
         → is_located (or_later k x (locate (k + 1) fs name)) ≡ either (is_found x) (among name (all_names fs))
-    go (FoundAt p) ih = refl
-    go NotFound ih = ih
+    go (Some p) ih = refl
+    go None ih = ih
 
 pub search-agrees : (name : List ℕ) (fs : List (List ℕ)) → is_located (find_from fs 0 name) ≡ among name (all_names fs)
 unfolding find_from

@@ -1,5 +1,6 @@
 -- The lines of a file of which one line is replaced: those before it stay, those behind it have the same texts at moved places.
 -- Assumes nothing.
+use Rattle.std.specs.Prelude.{Option, Some, None}
 use Prim.Native.Nat.{ℕ, zero, suc, ◌+◌, ◌≤◌, ◌<◌}
 use mathlib.Core.Path.{◌≡◌, refl, sym, subst}
 use mathlib.Core.Bool.{Bool, true, false, not}
@@ -12,8 +13,6 @@ use lib.ListN.{length, take, drop}
 use lib.Seq.{length-take-le, drop-append-le}
 use Rattle.spec.specs.Choice.{pick, both}
 use Rattle.spec.specs.Lines.{end, byte, join, text_at, Line, line_text, later_lines, lines_from, is_ignored, has_name, find, find_line, line_at}
-use Rattle.spec.specs.declared.Found.{Found}
-use Rattle.spec.specs.declared.Found.TheVariants.{At, Nothing}
 use Rattle.laws.proofs.Tests.{clash}
 use Rattle.laws.proofs.TextSteps as Laws
 use Rattle.laws.proofs.WholeLines.{line_shift}
@@ -98,11 +97,11 @@ whole_lines i (b ∷ c ∷ s) e = go (both (eqb b 92) (eqb c 10)) refl e (whole_
 
 -- ---- a line that is found starts behind whole lines, or at the start
 
-find_cons : (n : List ℕ) (l : Line) (ls : List Line) (a : ℕ) → find n (l ∷ ls) ≡ At a → (a ≡ l.start) ⊎ (find n ls ≡ At a)
+find_cons : (n : List ℕ) (l : Line) (ls : List Line) (a : ℕ) → find n (l ∷ ls) ≡ Some a → (a ≡ l.start) ⊎ (find n ls ≡ Some a)
 unfolding find
 find_cons n l ls a e = go (both (not (is_ignored l.text)) (has_name n l.text)) e
   where
-    go : (x : Bool) → pick x (At l.start) (find n ls) ≡ At a → (a ≡ l.start) ⊎ (find n ls ≡ At a)
+    go : (x : Bool) → pick x (Some l.start) (find n ls) ≡ Some a → (a ≡ l.start) ⊎ (find n ls ≡ Some a)
     go true q = inl cc
     go false q = inr q
 
@@ -136,17 +135,17 @@ module _ (n : List ℕ) (i b c : ℕ) (s : List ℕ) (a : ℕ) where
             ends = rw f (rw q at k.ends);
           }
 
-  kept_behind : (y : Bool) → eqb b 10 ≡ y → both (eqb b 92) (eqb c 10) ≡ false → (find n rest ≡ At a → Behind (i + 1) (c ∷ s) a)
-      → find n (pick y (record { start = i + 1; text = line_text (join (i + 1) (c ∷ s)) } ∷ rest) rest) ≡ At a → Behind i (b ∷ c ∷ s) a
+  kept_behind : (y : Bool) → eqb b 10 ≡ y → both (eqb b 92) (eqb c 10) ≡ false → (find n rest ≡ Some a → Behind (i + 1) (c ∷ s) a)
+      → find n (pick y (record { start = i + 1; text = line_text (join (i + 1) (c ∷ s)) } ∷ rest) rest) ≡ Some a → Behind i (b ∷ c ∷ s) a
   unfolding ends_line rest
   kept_behind true h f keep q =
       ⊎_elim (λ e. record { count = 1; place = e; inside = omega arith; ends = h }) (λ e. later (keep e) f) (find_cons n _ rest a q)
   kept_behind false h f keep q = later (keep q) f
 
   either_behind : (x : Bool) → both (eqb b 92) (eqb c 10) ≡ x
-      → find n (later_lines (pick x (join (i + 1 + 1) s) (byte b (i + 1) (join (i + 1) (c ∷ s))))) ≡ At a
-      → (find n (later_lines (join (i + 1 + 1) s)) ≡ At a → Behind (i + 1 + 1) s a)
-      → (find n (later_lines (join (i + 1) (c ∷ s))) ≡ At a → Behind (i + 1) (c ∷ s) a)
+      → find n (later_lines (pick x (join (i + 1 + 1) s) (byte b (i + 1) (join (i + 1) (c ∷ s))))) ≡ Some a
+      → (find n (later_lines (join (i + 1 + 1) s)) ≡ Some a → Behind (i + 1 + 1) s a)
+      → (find n (later_lines (join (i + 1) (c ∷ s))) ≡ Some a → Behind (i + 1) (c ∷ s) a)
       → Behind i (b ∷ c ∷ s) a
   unfolding ends_line later_lines rest
   either_behind true f q skip keep =
@@ -159,18 +158,18 @@ module _ (n : List ℕ) (i b c : ℕ) (s : List ℕ) (a : ℕ) where
       }
   either_behind false f q skip keep = kept_behind (eqb b 10) refl f keep q
 
-find_none : (n : List ℕ) (a : ℕ) → find n [] ≡ At a → ⊥
+find_none : (n : List ℕ) (a : ℕ) → find n [] ≡ Some a → ⊥
 unfolding find
 find_none n a e = cc
 
-last_behind : (n : List ℕ) (i b a : ℕ) (x : Bool) → eqb b 10 ≡ x → find n (pick x (record { start = i + 1; text = line_text end } ∷ []) []) ≡ At a
+last_behind : (n : List ℕ) (i b a : ℕ) (x : Bool) → eqb b 10 ≡ x → find n (pick x (record { start = i + 1; text = line_text end } ∷ []) []) ≡ Some a
     → Behind i (b ∷ []) a
 unfolding ends_line
 last_behind n i b a true h q =
     ⊎_elim (λ e. record { count = 1; place = e; inside = omega arith; ends = h }) (λ e. absurd (find_none n a e)) (find_cons n _ [] a q)
 last_behind n i b a false h q = absurd (find_none n a q)
 
-found-behind : (n : List ℕ) (i : ℕ) (s : List ℕ) (a : ℕ) → find n (later_lines (join i s)) ≡ At a → Behind i s a
+found-behind : (n : List ℕ) (i : ℕ) (s : List ℕ) (a : ℕ) → find n (later_lines (join i s)) ≡ Some a → Behind i s a
 unfolding join later_lines
 found-behind n i [] a e = absurd (find_none n a e)
 found-behind n i (b ∷ []) a e = last_behind n i b a (eqb b 10) refl e
@@ -231,7 +230,7 @@ cut-behind f a k =
           texts = λ i v l. whole-text i (take k.count f) v (omega (arith, n)) k.ends;
         }
 
-pub found-cut : (n f : List ℕ) (a : ℕ) → find_line f n ≡ At a → Cut f a
+pub found-cut : (n f : List ℕ) (a : ℕ) → find_line f n ≡ Some a → Cut f a
 unfolding find_line text_at
 found-cut n f a e =
     ⊎_elim (λ z. rw z first) (λ q. cut-behind f a (found-behind n 0 f a q))
@@ -242,31 +241,31 @@ found-cut n f a e =
 
 -- ---- the same bytes at another place: the same lines, moved
 
-abbrev pub Shifted : ℕ → ℕ → Found → Found → Type 0
-Shifted i j (At p) (At q) = (d : ℕ) × (p ≡ i + d) × (q ≡ j + d)
-Shifted i j (At p) Nothing = ⊥
-Shifted i j Nothing (At q) = ⊥
-Shifted i j Nothing Nothing = Unit {0}
+abbrev pub Shifted : ℕ → ℕ → Option ℕ → Option ℕ → Type 0
+Shifted i j (Some p) (Some q) = (d : ℕ) × (p ≡ i + d) × (q ≡ j + d)
+Shifted i j (Some p) None = ⊥
+Shifted i j None (Some q) = ⊥
+Shifted i j None None = Unit {0}
 
-shifted_down : (m i j : ℕ) (x y : Found) → Shifted (i + m) (j + m) x y → Shifted i j x y
-shifted_down m i j (At p) (At q) h = (m + h.0, omega (arith, h.1), omega (arith, h.2))
-shifted_down m i j (At p) Nothing h = h
-shifted_down m i j Nothing (At q) h = h
-shifted_down m i j Nothing Nothing h = tt
+shifted_down : (m i j : ℕ) (x y : Option ℕ) → Shifted (i + m) (j + m) x y → Shifted i j x y
+shifted_down m i j (Some p) (Some q) h = (m + h.0, omega (arith, h.1), omega (arith, h.2))
+shifted_down m i j (Some p) None h = h
+shifted_down m i j None (Some q) h = h
+shifted_down m i j None None h = tt
 
 module _ (n : List ℕ) where
   -- what is found in the lines of s from a place on, and in those behind its first line
-  abbrev found : ℕ → List ℕ → Found
+  abbrev found : ℕ → List ℕ → Option ℕ
   found i s = find n (lines_from i (join i s))
 
-  abbrev found_later : ℕ → List ℕ → Found
+  abbrev found_later : ℕ → List ℕ → Option ℕ
   found_later i s = find n (later_lines (join i s))
 
   line_shifted : (i j : ℕ) (s : List ℕ) → Shifted i j (found_later i s) (found_later j s) → Shifted i j (found i s) (found j s)
   unfolding find
   line_shifted i j s h = rw (line_shift j i s) (go (both (not (is_ignored (line_text (join i s)))) (has_name n (line_text (join i s)))))
     where
-      go : (x : Bool) → Shifted i j (pick x (At i) (found_later i s)) (pick x (At j) (found_later j s))
+      go : (x : Bool) → Shifted i j (pick x (Some i) (found_later i s)) (pick x (Some j) (found_later j s))
       go true = (0, omega arith, omega arith)
       go false = h
 

@@ -1,5 +1,6 @@
 -- The raw extent of a line lies in the database, and so does the place of a line that is found.
 -- Assumes nothing.
+use Rattle.std.specs.Prelude.{Some}
 use Prim.Native.Nat.{ℕ, ◌+◌, ◌-◌, ◌≤◌}
 use mathlib.Core.Path.{◌≡◌, refl}
 use mathlib.Core.Bool.{Bool, true, false, not}
@@ -8,7 +9,6 @@ use native.Mathlib.Omega.{arith}
 use borrow.Author.Tests.{eq-eqb, ne_eqb}
 use lib.Dec.{eqb}
 use lib.ListN.{length, drop, length-drop}
-use Rattle.spec.specs.declared.Found.TheVariants.{At}
 use Rattle.spec.specs.Choice.{pick, both}
 use Rattle.spec.specs.Lines.{Text, end, byte, join, text_at, Line, line_text, later_lines, is_ignored, has_name, find, find_line, line_end, extent}
 
@@ -40,35 +40,35 @@ extent-inside db at h = end-inside (length db) at (drop at db) (omega (arith, le
 -- ---- a line that is found
 
 module _ (n : List ℕ) (size p : ℕ) where
-  find_one : (l : Line) (ls : List Line) → l.start ≤ size → (find n ls ≡ At p → p ≤ size) → find n (l ∷ ls) ≡ At p → p ≤ size
+  find_one : (l : Line) (ls : List Line) → l.start ≤ size → (find n ls ≡ Some p → p ≤ size) → find n (l ∷ ls) ≡ Some p → p ≤ size
   unfolding find
   find_one l ls h ih e = go (both (not (is_ignored l.text)) (has_name n l.text)) e
     where
-      go : (x : Bool) → pick x (At l.start) (find n ls) ≡ At p → p ≤ size
+      go : (x : Bool) → pick x (Some l.start) (find n ls) ≡ Some p → p ≤ size
       go true q = let s : l.start ≡ p = cc in omega arith
       go false q = ih q
 
-  find-byte : (b at : ℕ) (t : Text) → at ≤ size → (find n (later_lines t) ≡ At p → p ≤ size) → find n (later_lines (byte b at t)) ≡ At p → p ≤ size
+  find-byte : (b at : ℕ) (t : Text) → at ≤ size → (find n (later_lines t) ≡ Some p → p ≤ size) → find n (later_lines (byte b at t)) ≡ Some p → p ≤ size
   unfolding later_lines
   find-byte b at t h ih e = go (eqb b 10) e
     where
-      go : (x : Bool) → find n (pick x (record { start = at; text = line_text t } ∷ later_lines t) (later_lines t)) ≡ At p → p ≤ size
+      go : (x : Bool) → find n (pick x (record { start = at; text = line_text t } ∷ later_lines t) (later_lines t)) ≡ Some p → p ≤ size
       go true q = find_one (record { start = at; text = line_text t }) (later_lines t) h ih q
       go false q = ih q
 
-  find-inside : (at : ℕ) (s : List ℕ) → at + length s ≤ size → find n (later_lines (join at s)) ≡ At p → p ≤ size
+  find-inside : (at : ℕ) (s : List ℕ) → at + length s ≤ size → find n (later_lines (join at s)) ≡ Some p → p ≤ size
   unfolding join later_lines find
   find-inside at [] h e = let z : ◌≡◌ {A = ℕ} 0 1 = cc in absurd (omega arith)
   find-inside at (b ∷ []) h e = find-byte b (at + 1) end (omega arith) (λ q. let z : ◌≡◌ {A = ℕ} 0 1 = cc in absurd (omega arith)) e
   find-inside at (b ∷ c ∷ s) h e =
       go (both (eqb b 92) (eqb c 10)) (find-inside (at + 1 + 1) s (omega arith)) (find-inside (at + 1) (c ∷ s) (omega arith)) e
     where
-      go : (x : Bool) → (find n (later_lines (join (at + 1 + 1) s)) ≡ At p → p ≤ size) → (find n (later_lines (join (at + 1) (c ∷ s))) ≡ At p → p ≤ size)
-          → find n (later_lines (pick x (join (at + 1 + 1) s) (byte b (at + 1) (join (at + 1) (c ∷ s))))) ≡ At p → p ≤ size
+      go : (x : Bool) → (find n (later_lines (join (at + 1 + 1) s)) ≡ Some p → p ≤ size) → (find n (later_lines (join (at + 1) (c ∷ s))) ≡ Some p → p ≤ size)
+          → find n (later_lines (pick x (join (at + 1 + 1) s) (byte b (at + 1) (join (at + 1) (c ∷ s))))) ≡ Some p → p ≤ size
       go true k m q = k q
       go false k m q = find-byte b (at + 1) (join (at + 1) (c ∷ s)) (omega arith) m q
 
-pub found_inside : (db n : List ℕ) (p : ℕ) → find_line db n ≡ At p → p ≤ length db
+pub found_inside : (db n : List ℕ) (p : ℕ) → find_line db n ≡ Some p → p ≤ length db
 unfolding find_line text_at
 found_inside db n p e =
     find_one n (length db) p (record { start = 0; text = line_text (join 0 db) }) (later_lines (join 0 db)) (omega arith)

@@ -1,5 +1,6 @@
 -- Lines of several files: the laws of one file, file by file.
 -- Assumes nothing.
+use Rattle.std.specs.Prelude.{Option, Some, None}
 use Prim.Native.Nat.{ℕ, zero, suc, ◌+◌, ◌-◌, ◌<◌}
 use mathlib.Core.Path.{◌≡◌, refl, ap}
 use mathlib.Core.List.{List, [], ◌∷◌}
@@ -11,10 +12,7 @@ use lib.ListN.{length, drop, get_or, length-drop}
 use lib.Seq.{take_all}
 use Rattle.spec.specs.Lines.{text_at, line_at, find_line}
 use Rattle.spec.specs.Files.{alone, rising, good_ends, cut_at, contents, file_at, line_of, or_later, locate, find_from}
-use Rattle.spec.specs.declared.Found.{Found}
-use Rattle.spec.specs.declared.Found.TheVariants.{At as FoundAt, Nothing as NotFound}
 use Rattle.spec.specs.declared.Location.{Location}
-use Rattle.spec.specs.declared.Located.TheVariants.{At}
 use Rattle.laws.proofs.WholeLines.{Free, Holds, line_free, found-holds, find-at-start}
 
 pub line_of_free : (db : List (List ℕ)) (l : Location) → Free 10 (line_of db l)
@@ -46,9 +44,9 @@ drop-after k f fs db e = rw add-one (go k db e)
 module _ (db : List (List ℕ)) (name : List ℕ) where
   -- There is the file, and the line is the one that the search in it finds.
   abbrev FoundIn : Location → Type 0
-  FoundIn l = (l.file < length db) × (find_line (file_at db l.file) name ≡ FoundAt l.at)
+  FoundIn l = (l.file < length db) × (find_line (file_at db l.file) name ≡ Some l.at)
 
-  locate-line : (k : ℕ) (fs : List (List ℕ)) (l : Location) → fs ≡ drop k db → locate k fs name ≡ At l → FoundIn l
+  locate-line : (k : ℕ) (fs : List (List ℕ)) (l : Location) → fs ≡ drop k db → locate k fs name ≡ Some l → FoundIn l
   unfolding locate file_at
   locate-line k [] l d e = let z : ◌≡◌ {A = ℕ} 0 1 = cc in absurd (omega arith)
   locate-line k (f ∷ fs) l d e = go (find_line f name) refl (locate-line (k + 1) fs l (drop-after k f fs db d)) e
@@ -56,18 +54,18 @@ module _ (db : List (List ℕ)) (name : List ℕ) where
       inside : k < length db
       inside = let n : length (f ∷ fs) ≡ length (drop k db) = ap length d in omega (arith, length-drop k db)
 
-      go : (x : Found) → find_line f name ≡ x → (locate (k + 1) fs name ≡ At l → FoundIn l) → or_later k x (locate (k + 1) fs name) ≡ At l → FoundIn l
-      go (FoundAt p) h ih q =
+      go : (x : Option ℕ) → find_line f name ≡ x → (locate (k + 1) fs name ≡ Some l → FoundIn l) → or_later k x (locate (k + 1) fs name) ≡ Some l → FoundIn l
+      go (Some p) h ih q =
           let i : record { file = k; at = p } ≡ l = cc in
           rw (← i, drop_here k f fs db d) (inside, h)
-      go NotFound h ih q = ih q
+      go None h ih q = ih q
 
-  pub located_line : (k : ℕ) (l : Location) → find_from db k name ≡ At l → FoundIn l
+  pub located_line : (k : ℕ) (l : Location) → find_from db k name ≡ Some l → FoundIn l
   unfolding find_from
   located_line k l e = locate-line k (drop k db) l refl e
 
   -- It is not ignored and has the name.
-  pub located_holds : (k : ℕ) (l : Location) → find_from db k name ≡ At l → Holds name (line_of db l)
+  pub located_holds : (k : ℕ) (l : Location) → find_from db k name ≡ Some l → Holds name (line_of db l)
   unfolding line_of
   located_holds k l e = found-holds (file_at db l.file) name l.at (located_line k l e).1
 
@@ -77,7 +75,7 @@ pub line-alone : (f : List ℕ) (p : ℕ) → line_of (f ∷ []) (record { file 
 unfolding line_of file_at
 line-alone f p = refl
 
-pub found-alone : (f name : List ℕ) → Holds name (line_at f 0) → find_from (f ∷ []) 0 name ≡ At (record { file = 0; at = 0 })
+pub found-alone : (f name : List ℕ) → Holds name (line_at f 0) → find_from (f ∷ []) 0 name ≡ Some (record { file = 0; at = 0 })
 unfolding find_from locate
 found-alone f name h = rw (find-at-start f name h)
 

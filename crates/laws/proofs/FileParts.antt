@@ -1,5 +1,6 @@
 -- Where the files lie in the buffer: the ends, the bytes of a file, and a line that is found in one.
 -- Assumes nothing.
+use Rattle.std.specs.Prelude.{Some}
 use Prim.Native.Nat.{ℕ, zero, suc, ◌+◌, ◌-◌, ◌≤◌, ◌<◌}
 use mathlib.Core.Path.{◌≡◌, refl, ap}
 use mathlib.Core.Bool.{true}
@@ -12,7 +13,6 @@ use Rattle.spec.specs.Choice.{between}
 use Rattle.spec.specs.Lines.{extent}
 use Rattle.spec.specs.Files.{Files, rising, good_ends, cut_at, contents, file_start, file_at, find_from}
 use Rattle.spec.specs.declared.Location.{Location}
-use Rattle.spec.specs.declared.Located.TheVariants.{At}
 use Rattle.laws.proofs.Tests.{both_true}
 use Rattle.laws.proofs.Extents.{extent-inside, found_inside}
 use Rattle.laws.proofs.FileLines.{located_line}
@@ -91,14 +91,14 @@ module _ (db : Files) (good : good_ends db ≡ true) where
 -- ---- a line that is found lies in its file
 
 -- There is the file, and the line starts in it.
-pub located_in : (fs : List (List ℕ)) (name : List ℕ) (k : ℕ) (l : Location) → find_from fs k name ≡ At l
+pub located_in : (fs : List (List ℕ)) (name : List ℕ) (k : ℕ) (l : Location) → find_from fs k name ≡ Some l
     → (l.file < length fs) × (l.at ≤ length (file_at fs l.file))
 located_in fs name k l e =
     let h = located_line fs name k l e in
     (h.0, found_inside (file_at fs l.file) name l.at h.1)
 
 -- The description that Show shows lies in its file, from its start on.
-pub located_extent : (db : Files) (name : List ℕ) (l : Location) → good_ends db ≡ true → find_from (contents db) 0 name ≡ At l
+pub located_extent : (db : Files) (name : List ℕ) (l : Location) → good_ends db ≡ true → find_from (contents db) 0 name ≡ Some l
     → (l.at ≤ extent (file_at (contents db) l.file) l.at)
     × (file_start db l.file + extent (file_at (contents db) l.file) l.at ≤ get_or db.ends l.file 0)
     × (get_or db.ends l.file 0 ≤ length db.bytes)

@@ -1,6 +1,7 @@
 -- The third pass may stop at any line before the one it looks at: only the links that are still to come can come back to a line. So the
 -- code need not look at which links stand.
 -- Assumes nothing.
+use Rattle.std.specs.Prelude.{Option, Some, None}
 use Prim.Native.Nat.{ℕ, zero, suc, ◌+◌}
 use mathlib.Core.Path.{◌≡◌, refl, ◌∙◌, ap, sym}
 use mathlib.Core.Logic.{◌⊎◌, inl, inr}
@@ -12,8 +13,6 @@ use lib.Dec.{eqb}
 use lib.ListN.{length}
 use Rattle.spec.specs.Choice.{pick}
 use Rattle.laws.proofs.Tests.{clash}
-use Rattle.spec.specs.declared.Found.{Found}
-use Rattle.spec.specs.declared.Found.TheVariants.{At, Nothing}
 use Rattle.spec.specs.Repair.{Link, leads, comes_back, link_reason, Removed, removed_links}
 use Rattle.laws.proofs.LinkRings.{
   Back,
@@ -39,10 +38,10 @@ use Rattle.laws.proofs.LinkRings.{
 
 -- ---- from f to q, and from there on to p
 
-on_to : (ks : List Link) (p q a b : ℕ) (f : Found) → Back q ks a f → Back p ks b (leads ks q) → Back p ks (a + b) f
+on_to : (ks : List Link) (p q a b : ℕ) (f : Option ℕ) → Back q ks a f → Back p ks b (leads ks q) → Back p ks (a + b) f
 on_to ks p q zero b f w v = back_zero q ks f w
-on_to ks p q (suc a) b Nothing w v = back_none q ks (suc a) w
-on_to ks p q (suc a) b (At r) w v =
+on_to ks p q (suc a) b None w v = back_none q ks (suc a) w
+on_to ks p q (suc a) b (Some r) w v =
     let e : suc (a + b) ≡ suc a + b = omega arith in
     rw e at (back_on p ks (a + b) r (go (back_step q ks a r w) (on_to ks p q a b (leads ks r))))
   where
@@ -53,46 +52,46 @@ on_to ks p q (suc a) b (At r) w v =
 
 -- ---- a way back that only passes lines that are still to come
 
-module _ (home : ℕ) (all late : List Link) (same : (p q : ℕ) → leads all p ≡ At q → (leads late p ≡ At q) ⊎ Acyclic all p) where
+module _ (home : ℕ) (all late : List Link) (same : (p q : ℕ) → leads all p ≡ Some q → (leads late p ≡ Some q) ⊎ Acyclic all p) where
   -- the way comes from the line at `home` in b steps
-  later : (n : ℕ) (f : Found) → ((p : ℕ) → f ≡ At p → (b : ℕ) × Back p all b (leads all home)) → Back home all n f → Back home late n f
+  later : (n : ℕ) (f : Option ℕ) → ((p : ℕ) → f ≡ Some p → (b : ℕ) × Back p all b (leads all home)) → Back home all n f → Back home late n f
   later zero f from w = back_zero home all f w
-  later (suc n) Nothing from w = back_none home all (suc n) w
-  later (suc n) (At p) from w = go (back_step home all n p w) (later n (leads all p))
+  later (suc n) None from w = back_none home all (suc n) w
+  later (suc n) (Some p) from w = go (back_step home all n p w) (later n (leads all p))
     where
       -- the link of p leads to q
-      step : (q : ℕ) → leads all p ≡ At q → Back home all n (leads all p) → (Back home all n (leads all p) → Back home late n (leads all p))
-          → (leads late p ≡ At q) ⊎ Acyclic all p → Back home late (suc n) (At p)
+      step : (q : ℕ) → leads all p ≡ Some q → Back home all n (leads all p) → (Back home all n (leads all p) → Back home late n (leads all p))
+          → (leads late p ≡ Some q) ⊎ Acyclic all p → Back home late (suc n) (Some p)
       step q e h ih (inl s) = back_on home late n p (rw (s ∙ sym e) (ih h))
       step q e h ih (inr c) = let b = from p refl in absurd (c (n + b.0) (on_to all p home n b.0 (leads all p) h b.1))
 
-      next : (q : ℕ) → leads all p ≡ At q → (b : ℕ) × Back q all b (leads all home)
+      next : (q : ℕ) → leads all p ≡ Some q → (b : ℕ) × Back q all b (leads all home)
       next q e =
           let b = from p refl in
           (b.0 + 1, on_to all q p b.0 1 (leads all home) b.1 (rw e (back_here q all 0 q refl)))
 
-      on : (f : Found) → leads all p ≡ f → Back home all n (leads all p)
-          → (((q : ℕ) → leads all p ≡ At q → (b : ℕ) × Back q all b (leads all home)) → Back home all n (leads all p) → Back home late n (leads all p))
-          → Back home late (suc n) (At p)
-      on Nothing e h ih = back_none home all n (rw e at h)
-      on (At q) e h ih = step q e h (ih next) (same p q e)
+      on : (f : Option ℕ) → leads all p ≡ f → Back home all n (leads all p)
+          → (((q : ℕ) → leads all p ≡ Some q → (b : ℕ) × Back q all b (leads all home)) → Back home all n (leads all p) → Back home late n (leads all p))
+          → Back home late (suc n) (Some p)
+      on None e h ih = back_none home all n (rw e at h)
+      on (Some q) e h ih = step q e h (ih next) (same p q e)
 
       go : (p ≡ home) ⊎ Back home all n (leads all p)
-          → (((q : ℕ) → leads all p ≡ At q → (b : ℕ) × Back q all b (leads all home)) → Back home all n (leads all p) → Back home late n (leads all p))
-          → Back home late (suc n) (At p)
+          → (((q : ℕ) → leads all p ≡ Some q → (b : ℕ) × Back q all b (leads all home)) → Back home all n (leads all p) → Back home late n (leads all p))
+          → Back home late (suc n) (Some p)
       go (inl e) ih = back_here home late n p e
       go (inr h) ih = on (leads all p) refl h ih
 
 -- ---- the reason of a link
 
-reason-same : (all late : List Link) (home : ℕ) (f : Found) → leads all home ≡ f → leads late home ≡ f
+reason-same : (all late : List Link) (home : ℕ) (f : Option ℕ) → leads all home ≡ f → leads late home ≡ f
     → ((n : ℕ) → Back home all n f → Back home late n f) → ((n : ℕ) → Back home late n f → Back home all n f) → link_reason all home f ≡ link_reason late home f
 unfolding link_reason
-reason-same all late home Nothing e g to from = refl
-reason-same all late home (At p) e g to from =
-    go (comes_back all (length all) home (At p)) (comes_back late (length late) home (At p)) refl refl
+reason-same all late home None e g to from = refl
+reason-same all late home (Some p) e g to from =
+    go (comes_back all (length all) home (Some p)) (comes_back late (length late) home (Some p)) refl refl
   where
-    go : (x y : Bool) → comes_back all (length all) home (At p) ≡ x → comes_back late (length late) home (At p) ≡ y → ◌≡◌ {A = ℕ} (pick x 5 0) (pick y 5 0)
+    go : (x y : Bool) → comes_back all (length all) home (Some p) ≡ x → comes_back late (length late) home (Some p) ≡ y → ◌≡◌ {A = ℕ} (pick x 5 0) (pick y 5 0)
     go true true s t = refl
     go true false s t = clash (sym (ring_bound home late (length all) p g (to (length all) s)) ∙ t)
     go false true s t = clash (sym (ring_bound home all (length late) p e (from (length late) t)) ∙ s)
@@ -119,12 +118,12 @@ fresh_member q p [] [] f m e = elim m [ ]
 fresh_member q p [] (k ∷ b) f (inl h) e = f.0 (h ∙ sym e)
 fresh_member q p [] (k ∷ b) f (inr m) e = fresh_member q p [] b f.1 m e
 
-leads_member : (ks : List Link) (p q : ℕ) → leads ks p ≡ At q → Member p ks
+leads_member : (ks : List Link) (p q : ℕ) → leads ks p ≡ Some q → Member p ks
 unfolding leads
 leads_member [] p q e = let z : ◌≡◌ {A = ℕ} 0 1 = cc in absurd (omega arith)
 leads_member (k ∷ ks) p q e = go (eqb k.at p) refl e (leads_member ks p q)
   where
-    go : (x : Bool) → eqb k.at p ≡ x → pick x k.to (leads ks p) ≡ At q → (leads ks p ≡ At q → Member p ks) → Member p (k ∷ ks)
+    go : (x : Bool) → eqb k.at p ≡ x → pick x k.to (leads ks p) ≡ Some q → (leads ks p ≡ Some q → Member p ks) → Member p (k ∷ ks)
     go true s h ih = inl (eqb-true k.at p s)
     go false s h ih = inr (ih h)
 
@@ -152,17 +151,17 @@ later_only passed k ks d inv =
     late_own : leads (k ∷ ks) k.at ≡ k.to
     late_own = unfold leads in rw (eq-eqb k.at k.at refl)
 
-    start : (p : ℕ) → k.to ≡ At p → (b : ℕ) × Back p (passed ++ k ∷ ks) b (leads (passed ++ k ∷ ks) k.at)
+    start : (p : ℕ) → k.to ≡ Some p → (b : ℕ) × Back p (passed ++ k ∷ ks) b (leads (passed ++ k ∷ ks) k.at)
     start p e = (1, rw (own ∙ e) (back_here p (passed ++ k ∷ ks) 0 p refl))
 
-    same : (p q : ℕ) → leads (passed ++ k ∷ ks) p ≡ At q → (leads (k ∷ ks) p ≡ At q) ⊎ Acyclic (passed ++ k ∷ ks) p
+    same : (p q : ℕ) → leads (passed ++ k ∷ ks) p ≡ Some q → (leads (k ∷ ks) p ≡ Some q) ⊎ Acyclic (passed ++ k ∷ ks) p
     same p q e = go (fresh_or p (k ∷ ks))
       where
-        go : Fresh p (k ∷ ks) ⊎ Member p (k ∷ ks) → (leads (k ∷ ks) p ≡ At q) ⊎ Acyclic (passed ++ k ∷ ks) p
+        go : Fresh p (k ∷ ks) ⊎ Member p (k ∷ ks) → (leads (k ∷ ks) p ≡ Some q) ⊎ Acyclic (passed ++ k ∷ ks) p
         go (inl f) = inr (inv p f)
         go (inr m) = inl (sym (late_leads passed (k ∷ ks) p d m) ∙ e)
 
-    wider : (p q : ℕ) → leads (k ∷ ks) p ≡ At q → leads (passed ++ k ∷ ks) p ≡ At q
+    wider : (p q : ℕ) → leads (k ∷ ks) p ≡ Some q → leads (passed ++ k ∷ ks) p ≡ Some q
     wider p q e = late_leads passed (k ∷ ks) p d (leads_member (k ∷ ks) p q e) ∙ e
 
 -- ---- so the third pass has no state: each link is judged by the links from its line on

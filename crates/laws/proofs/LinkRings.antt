@@ -1,6 +1,7 @@
 -- The third pass of the repair: links that come back do so in no more steps than there are links; and once each line was looked at in
 -- file order, no link that stands comes back.
 -- Assumes nothing.
+use Rattle.std.specs.Prelude.{Option, Some, None}
 use Prim.Native.Nat.{ℕ, zero, suc, ◌+◌, ◌≤◌, ◌<◌}
 use mathlib.Core.Path.{◌≡◌, refl, ◌∙◌, ap, sym}
 use mathlib.Core.Logic.{◌⊎◌, inl, inr}
@@ -12,8 +13,6 @@ use lib.Dec.{eqb}
 use lib.ListN.{length}
 use Rattle.spec.specs.Choice.{pick, either}
 use Rattle.laws.proofs.Tests.{clash}
-use Rattle.spec.specs.declared.Found.{Found}
-use Rattle.spec.specs.declared.Found.TheVariants.{At, Nothing}
 use Rattle.spec.specs.Repair.{Link, leads, comes_back, link_reason}
 
 -- ---- links without those of one line
@@ -22,12 +21,12 @@ unfoldable without : ℕ → List Link → List Link
 without p [] = []
 without p (k ∷ ks) = pick (eqb k.at p) (without p ks) (k ∷ without p ks)
 
-without_same : (p : ℕ) (ks : List Link) → leads (without p ks) p ≡ Nothing
+without_same : (p : ℕ) (ks : List Link) → leads (without p ks) p ≡ None
 unfolding without leads
 without_same p [] = refl
 without_same p (k ∷ ks) = go (eqb k.at p) refl (without_same p ks)
   where
-    go : (x : Bool) → eqb k.at p ≡ x → leads (without p ks) p ≡ Nothing → leads (pick x (without p ks) (k ∷ without p ks)) p ≡ Nothing
+    go : (x : Bool) → eqb k.at p ≡ x → leads (without p ks) p ≡ None → leads (pick x (without p ks) (k ∷ without p ks)) p ≡ None
     go true e ih = ih
     go false e ih = rw e ih
 
@@ -53,12 +52,12 @@ without_length p (k ∷ ks) = go (eqb k.at p) (without_length p ks)
     go false h = omega arith
 
 -- a line with a link: without it there is one less
-without_less : (p q : ℕ) (ks : List Link) → leads ks p ≡ At q → length (without p ks) < length ks
+without_less : (p q : ℕ) (ks : List Link) → leads ks p ≡ Some q → length (without p ks) < length ks
 unfolding without leads
 without_less p q [] e = let z : ◌≡◌ {A = ℕ} 0 1 = cc in absurd (omega arith)
 without_less p q (k ∷ ks) e = go (eqb k.at p) e (without_less p q ks)
   where
-    go : (x : Bool) → pick x k.to (leads ks p) ≡ At q → (leads ks p ≡ At q → length (without p ks) < length ks)
+    go : (x : Bool) → pick x k.to (leads ks p) ≡ Some q → (leads ks p ≡ Some q → length (without p ks) < length ks)
         → length (pick x (without p ks) (k ∷ without p ks)) < length (k ∷ ks)
     go true f ih = omega (arith, without_length p ks)
     go false f ih = omega (arith, ih f)
@@ -66,14 +65,14 @@ without_less p q (k ∷ ks) e = go (eqb k.at p) e (without_less p q ks)
 -- ---- coming back, step by step
 
 module _ (home : ℕ) where
-  abbrev pub Back : List Link → ℕ → Found → Type 0
+  abbrev pub Back : List Link → ℕ → Option ℕ → Type 0
   Back ks n f = comes_back ks n home f ≡ true
 
-  pub back_here : (ks : List Link) (n p : ℕ) → p ≡ home → Back ks (suc n) (At p)
+  pub back_here : (ks : List Link) (n p : ℕ) → p ≡ home → Back ks (suc n) (Some p)
   unfolding comes_back
   back_here ks n p e = rw (eq-eqb p home e)
 
-  pub back_on : (ks : List Link) (n p : ℕ) → Back ks n (leads ks p) → Back ks (suc n) (At p)
+  pub back_on : (ks : List Link) (n p : ℕ) → Back ks n (leads ks p) → Back ks (suc n) (Some p)
   unfolding comes_back
   back_on ks n p h = go (eqb p home)
     where
@@ -81,17 +80,17 @@ module _ (home : ℕ) where
       go true = refl
       go false = h
 
-  pub back_none : {A : Type 0} (ks : List Link) (n : ℕ) → Back ks n Nothing → A
+  pub back_none : {A : Type 0} (ks : List Link) (n : ℕ) → Back ks n None → A
   unfolding comes_back
   back_none ks zero e = clash (sym e)
   back_none ks (suc n) e = clash (sym e)
 
-  pub back_zero : {A : Type 0} (ks : List Link) (f : Found) → Back ks zero f → A
+  pub back_zero : {A : Type 0} (ks : List Link) (f : Option ℕ) → Back ks zero f → A
   unfolding comes_back
   back_zero ks f e = clash (sym e)
 
   -- a place on the way: it is the line, or its link goes on
-  pub back_step : (ks : List Link) (n p : ℕ) → Back ks (suc n) (At p) → (p ≡ home) ⊎ Back ks n (leads ks p)
+  pub back_step : (ks : List Link) (n p : ℕ) → Back ks (suc n) (Some p) → (p ≡ home) ⊎ Back ks n (leads ks p)
   unfolding comes_back
   back_step ks n p h = go (eqb p home) refl h
     where
@@ -100,118 +99,118 @@ module _ (home : ℕ) where
       go false e q = inr q
 
   -- more steps do no harm
-  pub back_more : (ks : List Link) (n m : ℕ) (f : Found) → n ≤ m → Back ks n f → Back ks m f
+  pub back_more : (ks : List Link) (n m : ℕ) (f : Option ℕ) → n ≤ m → Back ks n f → Back ks m f
   back_more ks zero m f h b = back_zero ks f b
   back_more ks (suc n) zero f h b = absurd (omega arith)
-  back_more ks (suc n) (suc m) Nothing h b = back_none ks (suc n) b
-  back_more ks (suc n) (suc m) (At p) h b = go (back_step ks n p b) (back_more ks n m (leads ks p) (omega arith))
+  back_more ks (suc n) (suc m) None h b = back_none ks (suc n) b
+  back_more ks (suc n) (suc m) (Some p) h b = go (back_step ks n p b) (back_more ks n m (leads ks p) (omega arith))
     where
-      go : (p ≡ home) ⊎ Back ks n (leads ks p) → (Back ks n (leads ks p) → Back ks m (leads ks p)) → Back ks (suc m) (At p)
+      go : (p ≡ home) ⊎ Back ks n (leads ks p) → (Back ks n (leads ks p) → Back ks m (leads ks p)) → Back ks (suc m) (Some p)
       go (inl e) ih = back_here ks m p e
       go (inr q) ih = back_on ks m p (ih q)
 
   -- links that lead on wherever the fewer do
-  pub back_wider : (few ks : List Link) → ((p q : ℕ) → leads few p ≡ At q → leads ks p ≡ At q) → (n : ℕ) (f : Found) → Back few n f → Back ks n f
+  pub back_wider : (few ks : List Link) → ((p q : ℕ) → leads few p ≡ Some q → leads ks p ≡ Some q) → (n : ℕ) (f : Option ℕ) → Back few n f → Back ks n f
   back_wider few ks w zero f b = back_zero few f b
-  back_wider few ks w (suc n) Nothing b = back_none few (suc n) b
-  back_wider few ks w (suc n) (At p) b = go (back_step few n p b) (back_wider few ks w n)
+  back_wider few ks w (suc n) None b = back_none few (suc n) b
+  back_wider few ks w (suc n) (Some p) b = go (back_step few n p b) (back_wider few ks w n)
     where
-      on : (f : Found) → leads few p ≡ f → Back few n f → (Back few n f → Back ks n f) → Back ks n (leads ks p)
-      on Nothing e q ih = back_none few n q
-      on (At r) e q ih = rw (w p r e) (ih q)
+      on : (f : Option ℕ) → leads few p ≡ f → Back few n f → (Back few n f → Back ks n f) → Back ks n (leads ks p)
+      on None e q ih = back_none few n q
+      on (Some r) e q ih = rw (w p r e) (ih q)
 
-      go : (p ≡ home) ⊎ Back few n (leads few p) → ((f : Found) → Back few n f → Back ks n f) → Back ks (suc n) (At p)
+      go : (p ≡ home) ⊎ Back few n (leads few p) → ((f : Option ℕ) → Back few n f → Back ks n f) → Back ks (suc n) (Some p)
       go (inl e) ih = back_here ks n p e
       go (inr q) ih = back_on ks n p (on (leads few p) refl q (ih (leads few p)))
 
   -- either the way passes the line at p, and comes back from there too; or the link of that line is not used
-  passes : (ks : List Link) (p n : ℕ) (f : Found) → Back ks n f → Back (without p ks) n f ⊎ ((m : ℕ) × (m ≤ n) × Back ks m (At p))
+  passes : (ks : List Link) (p n : ℕ) (f : Option ℕ) → Back ks n f → Back (without p ks) n f ⊎ ((m : ℕ) × (m ≤ n) × Back ks m (Some p))
   passes ks p zero f b = back_zero ks f b
-  passes ks p (suc n) Nothing b = back_none ks (suc n) b
-  passes ks p (suc n) (At q) b = go (back_step ks n q b) (eqb q p) refl (passes ks p n (leads ks q))
+  passes ks p (suc n) None b = back_none ks (suc n) b
+  passes ks p (suc n) (Some q) b = go (back_step ks n q b) (eqb q p) refl (passes ks p n (leads ks q))
     where
-      on : (q ≡ p → ⊥) → Back (without p ks) n (leads ks q) ⊎ ((m : ℕ) × (m ≤ n) × Back ks m (At p))
-          → Back (without p ks) (suc n) (At q) ⊎ ((m : ℕ) × (m ≤ suc n) × Back ks m (At p))
+      on : (q ≡ p → ⊥) → Back (without p ks) n (leads ks q) ⊎ ((m : ℕ) × (m ≤ n) × Back ks m (Some p))
+          → Back (without p ks) (suc n) (Some q) ⊎ ((m : ℕ) × (m ≤ suc n) × Back ks m (Some p))
       on ne (inl h) = inl (back_on (without p ks) n q (rw (without_other p q ks ne) h))
       on ne (inr h) = inr (h.0, omega (arith, h.1), h.2)
 
       go : (q ≡ home) ⊎ Back ks n (leads ks q) → (x : Bool) → eqb q p ≡ x
-          → (Back ks n (leads ks q) → Back (without p ks) n (leads ks q) ⊎ ((m : ℕ) × (m ≤ n) × Back ks m (At p)))
-          → Back (without p ks) (suc n) (At q) ⊎ ((m : ℕ) × (m ≤ suc n) × Back ks m (At p))
+          → (Back ks n (leads ks q) → Back (without p ks) n (leads ks q) ⊎ ((m : ℕ) × (m ≤ n) × Back ks m (Some p)))
+          → Back (without p ks) (suc n) (Some q) ⊎ ((m : ℕ) × (m ≤ suc n) × Back ks m (Some p))
       go (inl e) x s ih = inl (back_here (without p ks) n q e)
       go (inr h) true s ih = inr (suc n, omega arith, rw (← eqb-true q p s) (back_on ks n q h))
       go (inr h) false s ih = on (eqb-false q p s) (ih h)
 
-  without_wider : (p : ℕ) (ks : List Link) (q r : ℕ) → leads (without p ks) q ≡ At r → leads ks q ≡ At r
+  without_wider : (p : ℕ) (ks : List Link) (q r : ℕ) → leads (without p ks) q ≡ Some r → leads ks q ≡ Some r
   without_wider p ks q r e = go (eqb q p) refl
     where
-      go : (x : Bool) → eqb q p ≡ x → leads ks q ≡ At r
-      go true s = let f : leads (without p ks) q ≡ Nothing = rw (eqb-true q p s) (without_same p ks) in let z : ◌≡◌ {A = ℕ} 0 1 = cc in absurd (omega arith)
+      go : (x : Bool) → eqb q p ≡ x → leads ks q ≡ Some r
+      go true s = let f : leads (without p ks) q ≡ None = rw (eqb-true q p s) (without_same p ks) in let z : ◌≡◌ {A = ℕ} 0 1 = cc in absurd (omega arith)
       go false s = sym (without_other p q ks (eqb-false q p s)) ∙ e
 
   -- ---- so many steps are enough as there are links, and one more
 
   abbrev Enough : ℕ → Type 0
-  Enough m = (ks : List Link) → length ks ≤ m → (n : ℕ) (f : Found) → Back ks n f → Back ks (m + 1) f
+  Enough m = (ks : List Link) → length ks ≤ m → (n : ℕ) (f : Option ℕ) → Back ks n f → Back ks (m + 1) f
 
-  shorter : (m : ℕ) → Enough m → (ks : List Link) → length ks ≤ m + 1 → (b n : ℕ) (f : Found) → n ≤ b → Back ks n f → Back ks (m + 1 + 1) f
+  shorter : (m : ℕ) → Enough m → (ks : List Link) → length ks ≤ m + 1 → (b n : ℕ) (f : Option ℕ) → n ≤ b → Back ks n f → Back ks (m + 1 + 1) f
   shorter m ih ks h zero zero f l w = back_zero ks f w
   shorter m ih ks h zero (suc n) f l w = absurd (omega arith)
   shorter m ih ks h (suc b) zero f l w = back_zero ks f w
-  shorter m ih ks h (suc b) (suc n) Nothing l w = back_none ks (suc n) w
-  shorter m ih ks h (suc b) (suc n) (At p) l w = go (back_step ks n p w) (λ i f k v. shorter m ih ks h b i f k v)
+  shorter m ih ks h (suc b) (suc n) None l w = back_none ks (suc n) w
+  shorter m ih ks h (suc b) (suc n) (Some p) l w = go (back_step ks n p w) (λ i f k v. shorter m ih ks h b i f k v)
     where
       -- the link at p leads on to f
-      next : (f : Found) → leads ks p ≡ f → Back (without p ks) n f → Back ks (m + 1 + 1) (At p)
-      next Nothing e q = back_none (without p ks) n q
-      next (At r) e q =
+      next : (f : Option ℕ) → leads ks p ≡ f → Back (without p ks) n f → Back ks (m + 1 + 1) (Some p)
+      next None e q = back_none (without p ks) n q
+      next (Some r) e q =
           let less : length (without p ks) ≤ m = omega (arith, without_less p r ks e) in
-          let far : Back ks (m + 1) (At r) = back_wider (without p ks) ks (without_wider p ks) (m + 1) (At r) (ih (without p ks) less n (At r) q) in
-          let on : Back ks (suc (m + 1)) (At p) = back_on ks (m + 1) p (rw e far) in
-          back_more ks (suc (m + 1)) (m + 1 + 1) (At p) (omega arith) on
+          let far : Back ks (m + 1) (Some r) = back_wider (without p ks) ks (without_wider p ks) (m + 1) (Some r) (ih (without p ks) less n (Some r) q) in
+          let on : Back ks (suc (m + 1)) (Some p) = back_on ks (m + 1) p (rw e far) in
+          back_more ks (suc (m + 1)) (m + 1 + 1) (Some p) (omega arith) on
 
-      cases : ((i : ℕ) (f : Found) → i ≤ b → Back ks i f → Back ks (m + 1 + 1) f)
-          → Back (without p ks) n (leads ks p) ⊎ ((i : ℕ) × (i ≤ n) × Back ks i (At p)) → Back ks (m + 1 + 1) (At p)
+      cases : ((i : ℕ) (f : Option ℕ) → i ≤ b → Back ks i f → Back ks (m + 1 + 1) f)
+          → Back (without p ks) n (leads ks p) ⊎ ((i : ℕ) × (i ≤ n) × Back ks i (Some p)) → Back ks (m + 1 + 1) (Some p)
       cases on (inl q) = next (leads ks p) refl q
-      cases on (inr q) = on q.0 (At p) (omega (arith, q.1)) q.2
+      cases on (inr q) = on q.0 (Some p) (omega (arith, q.1)) q.2
 
-      go : (p ≡ home) ⊎ Back ks n (leads ks p) → ((i : ℕ) (f : Found) → i ≤ b → Back ks i f → Back ks (m + 1 + 1) f) → Back ks (m + 1 + 1) (At p)
-      go (inl e) on = back_more ks (suc 0) (m + 1 + 1) (At p) (omega arith) (back_here ks 0 p e)
+      go : (p ≡ home) ⊎ Back ks n (leads ks p) → ((i : ℕ) (f : Option ℕ) → i ≤ b → Back ks i f → Back ks (m + 1 + 1) f) → Back ks (m + 1 + 1) (Some p)
+      go (inl e) on = back_more ks (suc 0) (m + 1 + 1) (Some p) (omega arith) (back_here ks 0 p e)
       go (inr q) on = cases on (passes ks p n (leads ks p) q)
 
-  alone : (n p : ℕ) → (p ≡ home) ⊎ Back [] n (leads [] p) → Back [] (0 + 1) (At p)
+  alone : (n p : ℕ) → (p ≡ home) ⊎ Back [] n (leads [] p) → Back [] (0 + 1) (Some p)
   unfolding leads
   alone n p (inl e) = back_here [] 0 p e
   alone n p (inr q) = back_none [] n q
 
   enough : (m : ℕ) → Enough m
-  enough zero [] h n Nothing b = back_none [] n b
-  enough zero [] h zero (At p) b = back_zero [] (At p) b
-  enough zero [] h (suc n) (At p) b = alone n p (back_step [] n p b)
+  enough zero [] h n None b = back_none [] n b
+  enough zero [] h zero (Some p) b = back_zero [] (Some p) b
+  enough zero [] h (suc n) (Some p) b = alone n p (back_step [] n p b)
   enough zero (k ∷ ks) h n f b = absurd (omega arith)
   enough (suc m) ks h n f b =
       let e : m + 1 + 1 ≡ suc m + 1 = omega arith in
       rw e at (shorter m (enough m) ks (omega arith) n n f (omega arith) b)
 
   -- the line's own link is not used on the way back to it
-  own_unused : (ks : List Link) (n : ℕ) (f : Found) → Back ks n f → Back (without home ks) n f
+  own_unused : (ks : List Link) (n : ℕ) (f : Option ℕ) → Back ks n f → Back (without home ks) n f
   own_unused ks zero f b = back_zero ks f b
-  own_unused ks (suc n) Nothing b = back_none ks (suc n) b
-  own_unused ks (suc n) (At p) b = go (eqb p home) refl (back_step ks n p b) (own_unused ks n (leads ks p))
+  own_unused ks (suc n) None b = back_none ks (suc n) b
+  own_unused ks (suc n) (Some p) b = go (eqb p home) refl (back_step ks n p b) (own_unused ks n (leads ks p))
     where
       go : (x : Bool) → eqb p home ≡ x → (p ≡ home) ⊎ Back ks n (leads ks p) → (Back ks n (leads ks p) → Back (without home ks) n (leads ks p))
-          → Back (without home ks) (suc n) (At p)
+          → Back (without home ks) (suc n) (Some p)
       go true e s ih = back_here (without home ks) n p (eqb-true p home e)
       go false e (inl q) ih = absurd (eqb-false p home e q)
       go false e (inr q) ih = back_on (without home ks) n p (rw (without_other home p ks (eqb-false p home e)) (ih q))
 
   -- "A ring of links has no more steps than there are links."
-  pub ring_bound : (ks : List Link) (n p : ℕ) → leads ks home ≡ At p → Back ks n (At p) → Back ks (length ks) (At p)
+  pub ring_bound : (ks : List Link) (n p : ℕ) → leads ks home ≡ Some p → Back ks n (Some p) → Back ks (length ks) (Some p)
   ring_bound ks n p e b =
       let few = without home ks in
-      let near : Back few (length few + 1) (At p) = enough (length few) few (omega arith) n (At p) (own_unused ks n (At p) b) in
+      let near : Back few (length few + 1) (Some p) = enough (length few) few (omega arith) n (Some p) (own_unused ks n (Some p) b) in
       let less : length few + 1 ≤ length ks = omega (arith, without_less home p ks e) in
-      back_more ks (length few + 1) (length ks) (At p) less (back_wider few ks (without_wider home ks) (length few + 1) (At p) near)
+      back_more ks (length few + 1) (length ks) (Some p) less (back_wider few ks (without_wider home ks) (length few + 1) (Some p) near)
 
 -- ---- lines are known by distinct places
 
@@ -234,7 +233,7 @@ distinct_mid (j ∷ a) k b h =
     let f = fresh_mid j.at a k b h.0 in
     (((λ e. f.0 (sym e)), r.0), (f.1, r.1))
 
-pub fresh_leads : (p : ℕ) (ks : List Link) → Fresh p ks → leads ks p ≡ Nothing
+pub fresh_leads : (p : ℕ) (ks : List Link) → Fresh p ks → leads ks p ≡ None
 unfolding leads
 fresh_leads p [] h = refl
 fresh_leads p (k ∷ ks) h = rw (ne_eqb k.at p h.0) (fresh_leads p ks h.1)
@@ -260,16 +259,16 @@ standing passed (k ∷ ks) = pick (eqb (link_reason (passed ++ k ∷ ks) k.at k.
 abbrev pub Acyclic : List Link → ℕ → Type 0
 Acyclic ks p = (n : ℕ) → comes_back ks n p (leads ks p) ≡ true → ⊥
 
-pub no_link_lem : (ks : List Link) (p : ℕ) → leads ks p ≡ Nothing → Acyclic ks p
+pub no_link_lem : (ks : List Link) (p : ℕ) → leads ks p ≡ None → Acyclic ks p
 no_link_lem ks p e n b = back_none p ks n (rw e at b)
 
 -- a link that is not removed is found, and does not come back
-pub kept-link : (ks : List Link) (p : ℕ) (f : Found) → leads ks p ≡ f → link_reason ks p f ≡ 0 → Acyclic ks p
+pub kept-link : (ks : List Link) (p : ℕ) (f : Option ℕ) → leads ks p ≡ f → link_reason ks p f ≡ 0 → Acyclic ks p
 unfolding link_reason
-kept-link ks p Nothing e r n b = let z : ◌≡◌ {A = ℕ} 4 0 = r in absurd (omega arith)
-kept-link ks p (At q) e r n b = go (comes_back ks (length ks) p (At q)) refl r
+kept-link ks p None e r n b = let z : ◌≡◌ {A = ℕ} 4 0 = r in absurd (omega arith)
+kept-link ks p (Some q) e r n b = go (comes_back ks (length ks) p (Some q)) refl r
   where
-    go : (x : Bool) → comes_back ks (length ks) p (At q) ≡ x → ◌≡◌ {A = ℕ} (pick x 5 0) 0 → ⊥
+    go : (x : Bool) → comes_back ks (length ks) p (Some q) ≡ x → ◌≡◌ {A = ℕ} (pick x 5 0) 0 → ⊥
     go true s h = let z : ◌≡◌ {A = ℕ} 5 0 = h in omega arith
     go false s h = clash (sym (ring_bound p ks n q e (rw e at b)) ∙ s)
 
@@ -278,12 +277,12 @@ pub fewer : (a : List Link) (k : Link) (b : List Link) (p : ℕ) → Fresh k.at 
 fewer a k b p h ne acyclic n w =
     acyclic n (rw (leads_mid p a k b ne) (back_wider p (a ++ b) (a ++ k ∷ b) wider n (leads (a ++ b) p) w))
   where
-    wider : (q r : ℕ) → leads (a ++ b) q ≡ At r → leads (a ++ k ∷ b) q ≡ At r
+    wider : (q r : ℕ) → leads (a ++ b) q ≡ Some r → leads (a ++ k ∷ b) q ≡ Some r
     wider q r e = go (eqb k.at q) refl
       where
-        go : (x : Bool) → eqb k.at q ≡ x → leads (a ++ k ∷ b) q ≡ At r
+        go : (x : Bool) → eqb k.at q ≡ x → leads (a ++ k ∷ b) q ≡ Some r
         go true s =
-            let f : leads (a ++ b) q ≡ Nothing = rw (← eqb-true k.at q s) (fresh_leads k.at (a ++ b) h) in
+            let f : leads (a ++ b) q ≡ None = rw (← eqb-true k.at q s) (fresh_leads k.at (a ++ b) h) in
             let z : ◌≡◌ {A = ℕ} 0 1 = cc in
             absurd (omega arith)
         go false s = leads_mid q a k b (eqb-false k.at q s) ∙ e

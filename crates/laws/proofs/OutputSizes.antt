@@ -9,14 +9,14 @@ use native.Mathlib.Omega.{arith}
 use borrow.Author.Tests.{ltb-true}
 use lib.Dec.{eqb, leb, ltb}
 use lib.ListN.{length, length-append}
+use Rattle.std.specs.Prelude.{Option, Some, None, Result, Ok, Err}
 use Rattle.spec.specs.Choice.{both}
 use Rattle.spec.specs.Digits.{written}
 use Rattle.spec.specs.Values.{held, holding, non_negative, plain_value, avoided, raised_from, raised, raises, byte_for, changed}
 use Rattle.spec.specs.Sequences.{letter, read_byte, Narrow, take_next, with_changed, as_decimal, as_byte, perform, output_bytes}
 use Rattle.spec.specs.Position.{repeated}
+use Rattle.spec.specs.declared.Refusal.{Refusal}
 use Rattle.spec.specs.declared.Refusal.TheVariants.{NoRoom, TooFewParameters, OutOfRange}
-use Rattle.spec.specs.declared.position.Changed.{Changed}
-use Rattle.spec.specs.declared.position.Changed.TheVariants.{To, OutOfRange as Out}
 use Rattle.spec.specs.declared.position.Parameter.{Parameter}
 use Rattle.spec.specs.declared.position.Parameters.{Parameters}
 use Rattle.spec.specs.declared.position.Parameters.TheVariants.{TwoUnused, OneUnused, AllUsed}
@@ -30,7 +30,6 @@ use Rattle.spec.specs.declared.position.Progress.TheVariants.{More, Whole, Unkno
 use Rattle.spec.specs.declared.position.Sequence.{Sequence}
 use Rattle.spec.specs.declared.position.Sequence.TheVariants.{Percent, Decimal, Byte, ChangeEvery, ChangeNext, Exchange}
 use Rattle.spec.specs.declared.position.Effect.{Effect}
-use Rattle.spec.specs.declared.position.Effect.TheVariants.{Gives, Refused}
 use Rattle.laws.proofs.Tests.{pick_all, pick-told, both_true}
 use Rattle.laws.proofs.DigitLaws.{written-most}
 use Rattle.laws.proofs.Buffers.{not_nine}
@@ -97,9 +96,9 @@ module _ (size : Parameter → ℕ) where
   weight (AllUsed u v) = owed u + owed v
 
   -- a refusal is not for want of room
-  abbrev pub Fits : Parameters → Effect → Type 0
-  Fits ps (Gives x qs) = length (output_bytes x) + weight qs ≤ 2 + weight ps
-  Fits ps (Refused r) = r ≡ NoRoom → ⊥
+  abbrev pub Fits : Parameters → Result Effect Refusal → Type 0
+  Fits ps (Ok e) = length (output_bytes e.output) + weight e.parameters ≤ 2 + weight ps
+  Fits ps (Err r) = r ≡ NoRoom → ⊥
 
 -- ---- what a sequence gives
 
@@ -115,9 +114,10 @@ decimal_short least h l e =
     written-most 10 least (plain_value h) (omega arith) 5 (omega arith) (omega arith)
 
 -- What holds of a change that stays in its range, and of refusal 12, holds of the change.
-holds-all : (P : Effect → Type 0) (r : Changed) {f : ℕ → Effect} → ((h : ℕ) → P (f h)) → P (Refused OutOfRange) → P (with_changed r f)
-holds-all P (To h) p q = p h
-holds-all P Out p q = q
+holds-all : (P : Result Effect Refusal → Type 0) (r : Option ℕ) {f : ℕ → Result Effect Refusal} → ((h : ℕ) → P (f h)) → P (Err OutOfRange)
+    → P (with_changed r f)
+holds-all P (Some h) p q = p h
+holds-all P None p q = q
 
 module _ (size : Parameter → ℕ) (kept : (p : Parameter) (h : ℕ) → size (holding p h) ≡ size p) (g : Raising) where
   decimal_fits : (least : ℕ) (ps : Parameters) (p : Parameter) → least ≤ 3 → weight size (take_next ps 0) + 3 ≤ weight size ps

@@ -1,5 +1,6 @@
 -- The laws of the joined text at a place, as the code moves from place to place.
 -- Assumes nothing.
+use Rattle.std.specs.Prelude.{Some}
 use Prim.Native.Nat.{ℕ, zero, suc, ◌+◌, ◌≤◌, ◌<◌}
 use mathlib.Core.Path.{◌≡◌, refl, ◌∙◌}
 use mathlib.Core.Bool.{Bool, true, false}
@@ -12,7 +13,6 @@ use native.Mathlib.Nat.{not-suc-le-zero, le_of_suc-le-suc}
 use lib.ListN.{length, drop, get_or, drop_of_length-le}
 use lib.Seq.{drop-cons}
 use mathlib.Core.Logic.{◌⊎◌, inl, inr}
-use Rattle.spec.specs.declared.Found.TheVariants.{At}
 use Rattle.spec.specs.Choice.{pick}
 use Rattle.spec.specs.Lines.{
   Text,
@@ -188,7 +188,7 @@ module _ (n m : List ℕ) (ms : List (List ℕ)) where
   among_last e f = rw (e, f)
 
 module _ (n : List ℕ) (at : ℕ) (t : Text) where
-  pub find_here : is_ignored (line_text t) ≡ false → has_name n (line_text t) ≡ true → find n (lines_from at t) ≡ At at
+  pub find_here : is_ignored (line_text t) ≡ false → has_name n (line_text t) ≡ true → find n (lines_from at t) ≡ Some at
   unfolding find
   find_here e f = rw (e, f)
 

@@ -1,5 +1,6 @@
 -- The walk step by step: n descriptions are passed, and room for 32 - n is left.
 -- Assumes nothing.
+use Rattle.std.specs.Prelude.{Some, None}
 use Prim.Native.Nat.{ℕ, zero, suc, ◌+◌, ◌-◌, ◌≤◌, ◌<◌}
 use mathlib.Core.Path.{◌≡◌, refl}
 use mathlib.Core.Bool.{true, false}
@@ -9,7 +10,6 @@ use borrow.Author.Tests.{lt-ltb, le-ltb}
 use lib.Dec.{ltb}
 use Rattle.spec.specs.Files.{line_of, find_from}
 use Rattle.spec.specs.declared.Location.{Location}
-use Rattle.spec.specs.declared.Located.TheVariants.{At, Nothing}
 use Rattle.spec.specs.Fields.{line_size, Verdict, malformed_line, no_link, link_to, verdict}
 use Rattle.spec.specs.declared.Refusal.{Refusal}
 use Rattle.spec.specs.declared.Refusal.TheVariants.{Malformed, Cycle, ChainTooLarge, LostLink, UnknownName}
@@ -20,17 +20,17 @@ unfolding visited
 visited_nil p = refl
 
 module _ (db : List (List ℕ)) (seen : List Location) (size : ℕ) (missing : Refusal) where
-  pub follow-none : (m : ℕ) → follow db m seen size missing Nothing ≡ broken missing
+  pub follow-none : (m : ℕ) → follow db m seen size missing None ≡ broken missing
   unfolding follow
   follow-none zero = refl
   follow-none (suc m) = refl
 
-  pub follow-back : (m : ℕ) (p : Location) → visited p seen ≡ true → follow db m seen size missing (At p) ≡ broken Cycle
+  pub follow-back : (m : ℕ) (p : Location) → visited p seen ≡ true → follow db m seen size missing (Some p) ≡ broken Cycle
   unfolding follow
   follow-back zero p e = rw e
   follow-back (suc m) p e = rw e
 
-  pub follow_full : (n : ℕ) (p : Location) → 32 ≤ n → visited p seen ≡ false → follow db (32 - n) seen size missing (At p) ≡ broken ChainTooLarge
+  pub follow_full : (n : ℕ) (p : Location) → 32 ≤ n → visited p seen ≡ false → follow db (32 - n) seen size missing (Some p) ≡ broken ChainTooLarge
   unfolding follow
   follow_full n p h e =
       let z : 32 - n ≡ 0 = omega arith in
@@ -38,7 +38,7 @@ module _ (db : List (List ℕ)) (seen : List Location) (size : ℕ) (missing : R
 
   -- the line at p is new, and there is room for it
   module _ (n : ℕ) (p : Location) (room : n < 32) (new : visited p seen ≡ false) where
-    step : follow db (32 - n) seen size missing (At p)
+    step : follow db (32 - n) seen size missing (Some p)
         ≡ entered (seen ++ p ∷ []) (verdict (line_of db p)) (ltb 16384 (size + line_size (line_of db p)))
         (follow db (32 - (n + 1)) (seen ++ p ∷ []) (size + line_size (line_of db p)) LostLink (link_target db p (verdict (line_of db p))))
     unfolding follow
@@ -46,12 +46,12 @@ module _ (db : List (List ℕ)) (seen : List Location) (size : ℕ) (missing : R
         let z : 32 - n ≡ suc (32 - (n + 1)) = omega arith in
         rw (z, new)
 
-    pub follow_spoilt : verdict (line_of db p) ≡ malformed_line → follow db (32 - n) seen size missing (At p) ≡ broken Malformed
+    pub follow_spoilt : verdict (line_of db p) ≡ malformed_line → follow db (32 - n) seen size missing (Some p) ≡ broken Malformed
     unfolding entered
     follow_spoilt e = rw (step, e)
 
     pub follow_big : (verdict (line_of db p) ≡ malformed_line → ⊥) → 16384 < size + line_size (line_of db p)
-        → follow db (32 - n) seen size missing (At p) ≡ broken ChainTooLarge
+        → follow db (32 - n) seen size missing (Some p) ≡ broken ChainTooLarge
     unfolding entered
     follow_big e h = rw (step, lt-ltb 16384 (size + line_size (line_of db p)) h) (go (verdict (line_of db p)) refl _)
       where
@@ -61,12 +61,12 @@ module _ (db : List (List ℕ)) (seen : List Location) (size : ℕ) (missing : R
         go (link_to name) q more = refl
 
     pub follow_last : verdict (line_of db p) ≡ no_link → size + line_size (line_of db p) ≤ 16384
-        → follow db (32 - n) seen size missing (At p) ≡ chain (seen ++ p ∷ [])
+        → follow db (32 - n) seen size missing (Some p) ≡ chain (seen ++ p ∷ [])
     unfolding entered
     follow_last e h = rw (step, e, le-ltb 16384 (size + line_size (line_of db p)) h)
 
     pub follow-next : (name : List ℕ) → verdict (line_of db p) ≡ link_to name → size + line_size (line_of db p) ≤ 16384
-        → follow db (32 - n) seen size missing (At p) ≡ follow db (32 - (n + 1)) (seen ++ p ∷ []) (size + line_size (line_of db p)) LostLink
+        → follow db (32 - n) seen size missing (Some p) ≡ follow db (32 - (n + 1)) (seen ++ p ∷ []) (size + line_size (line_of db p)) LostLink
         (find_from db p.file name)
     unfolding entered link_target
     follow-next name e h = rw (step, e, le-ltb 16384 (size + line_size (line_of db p)) h)

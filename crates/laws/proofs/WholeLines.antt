@@ -1,5 +1,6 @@
 -- Lines as texts: the line that a search finds, and the line of a raw text that has no newline in it.
 -- Assumes nothing.
+use Rattle.std.specs.Prelude.{Some}
 use Prim.Native.Nat.{ℕ, zero, suc, ◌+◌}
 use mathlib.Core.Path.{sym, ◌≡◌, refl, ◌∙◌, ap}
 use mathlib.Core.Bool.{Bool, true, false, not}
@@ -11,7 +12,6 @@ use lib.Dec.{eqb}
 use lib.ListN.{length, drop}
 use lib.Seq.{drop-drop}
 use Rattle.laws.proofs.TextSteps as Laws
-use Rattle.spec.specs.declared.Found.TheVariants.{At}
 use Rattle.spec.specs.Choice.{pick, both}
 use Rattle.spec.specs.Lines.{Text, end, byte, join, text_at, Line, line_text, later_lines, is_ignored, has_name, find, find_line, line_at}
 use Rattle.spec.specs.Lists.{same}
@@ -52,12 +52,12 @@ pub drop_on : (b : ℕ) (s : List ℕ) (at : ℕ) (l : List ℕ) → b ∷ s ≡
 drop_on b s at l e = rw add-one (drop_tail b s at l e)
 
 module _ (db n : List ℕ) where
-  find_first : (l : Line) (ls : List Line) (p : ℕ) → find n (l ∷ ls) ≡ At p → l.text ≡ line_at db l.start → (find n ls ≡ At p → Holds n (line_at db p)) →
+  find_first : (l : Line) (ls : List Line) (p : ℕ) → find n (l ∷ ls) ≡ Some p → l.text ≡ line_at db l.start → (find n ls ≡ Some p → Holds n (line_at db p)) →
       Holds n (line_at db p)
   unfolding find
   find_first l ls p e f ih = go (both (not (is_ignored l.text)) (has_name n l.text)) refl e
     where
-      go : (x : Bool) → both (not (is_ignored l.text)) (has_name n l.text) ≡ x → pick x (At l.start) (find n ls) ≡ At p → Holds n (line_at db p)
+      go : (x : Bool) → both (not (is_ignored l.text)) (has_name n l.text) ≡ x → pick x (Some l.start) (find n ls) ≡ Some p → Holds n (line_at db p)
       go true h q =
           let s : l.start ≡ p = cc in
           let w = both_true _ _ h in
@@ -65,16 +65,16 @@ module _ (db n : List ℕ) where
           rw (← s, ← f) (ig, w.1)
       go false h q = ih q
 
-  find-byte : (b at p : ℕ) (t : Text) → line_text t ≡ line_at db at → (find n (later_lines t) ≡ At p → Holds n (line_at db p)) → find n (later_lines (byte b at t))
-      ≡ At p → Holds n (line_at db p)
+  find-byte : (b at p : ℕ) (t : Text) → line_text t ≡ line_at db at → (find n (later_lines t) ≡ Some p → Holds n (line_at db p)) → find n (later_lines (byte b at t))
+      ≡ Some p → Holds n (line_at db p)
   unfolding later_lines
   find-byte b at p t f ih e = go (eqb b 10) e
     where
-      go : (x : Bool) → find n (pick x (record { start = at; text = line_text t } ∷ later_lines t) (later_lines t)) ≡ At p → Holds n (line_at db p)
+      go : (x : Bool) → find n (pick x (record { start = at; text = line_text t } ∷ later_lines t) (later_lines t)) ≡ Some p → Holds n (line_at db p)
       go true q = find_first (record { start = at; text = line_text t }) (later_lines t) p q f ih
       go false q = ih q
 
-  find_later : (at : ℕ) (s : List ℕ) (p : ℕ) → s ≡ drop at db → find n (later_lines (join at s)) ≡ At p → Holds n (line_at db p)
+  find_later : (at : ℕ) (s : List ℕ) (p : ℕ) → s ≡ drop at db → find n (later_lines (join at s)) ≡ Some p → Holds n (line_at db p)
   unfolding join later_lines find line_at text_at
   find_later at [] p d e = let z : ◌≡◌ {A = ℕ} 0 1 = cc in absurd (omega arith)
   find_later at (b ∷ []) p d e = find-byte b (at + 1) p end (rw (← drop_on b [] at db d)) (λ q. let z : ◌≡◌ {A = ℕ} 0 1 = cc in absurd (omega arith)) e
@@ -83,13 +83,13 @@ module _ (db n : List ℕ) where
       go (both (eqb b 92) (eqb c 10)) d₁ (find_later (at + 1 + 1) s p (drop_on c s (at + 1) db d₁)) (find_later (at + 1) (c ∷ s) p d₁) e
     where
       go : (x : Bool) → c ∷ s ≡ drop (at + 1) db
-          → (find n (later_lines (join (at + 1 + 1) s)) ≡ At p → Holds n (line_at db p))
-          → (find n (later_lines (join (at + 1) (c ∷ s))) ≡ At p → Holds n (line_at db p))
-          → find n (later_lines (pick x (join (at + 1 + 1) s) (byte b (at + 1) (join (at + 1) (c ∷ s))))) ≡ At p → Holds n (line_at db p)
+          → (find n (later_lines (join (at + 1 + 1) s)) ≡ Some p → Holds n (line_at db p))
+          → (find n (later_lines (join (at + 1) (c ∷ s))) ≡ Some p → Holds n (line_at db p))
+          → find n (later_lines (pick x (join (at + 1 + 1) s) (byte b (at + 1) (join (at + 1) (c ∷ s))))) ≡ Some p → Holds n (line_at db p)
       go true d₁ skipped kept q = skipped q
       go false d₁ skipped kept q = find-byte b (at + 1) p (join (at + 1) (c ∷ s)) (rw (← d₁)) kept q
 
-  pub found-holds : (p : ℕ) → find_line db n ≡ At p → Holds n (line_at db p)
+  pub found-holds : (p : ℕ) → find_line db n ≡ Some p → Holds n (line_at db p)
   unfolding find_line text_at line_at
   found-holds p e = find_first (record { start = 0; text = line_text (join 0 db) }) (later_lines (join 0 db)) p e refl (find_later 0 db p refl)
 
@@ -121,7 +121,7 @@ line-newline at = refl
 
 -- ---- the search at a database's first line
 
-pub find-at-start : (db n : List ℕ) → Holds n (line_at db 0) → find_line db n ≡ At 0
+pub find-at-start : (db n : List ℕ) → Holds n (line_at db 0) → find_line db n ≡ Some 0
 unfolding find_line find line_at
 find-at-start db n h = rw (h.0, h.1)
 

@@ -2,107 +2,38 @@
 -- Assumes nothing.
 use Prim.Native.Nat.{ℕ, zero, suc, ◌+◌, ◌-◌, ◌≤◌, ◌<◌}
 use mathlib.Core.Path.{◌≡◌, refl, ◌∙◌, ap, sym}
-use mathlib.Core.Bool.{Bool, true, false, not, ◌||◌, true≢false}
+use mathlib.Core.Bool.{Bool, true, false, not, true≢false}
 use mathlib.Core.Logic.{◌⊎◌, inl, inr}
-use mathlib.Core.List.{List, [], ◌∷◌}
+use mathlib.Core.List.{List}
 use native.Mathlib.Numerals.{add-one}
 use native.Mathlib.Omega.{arith}
-use borrow.Author.Tests.{eq-eqb, ne_eqb, eqb-true, eqb-false, lt-ltb, le-ltb, ltb-true, ltb-false, leb-true}
-use native.Mathlib.Nat.{not-suc-le-zero, le_of_suc-le-suc}
+use borrow.Author.Tests.{eq-eqb, ne_eqb, eqb-true, eqb-false, leb-true}
 use lib.Dec.{eqb, ltb, leb}
-use lib.ListN.{length, drop, get_or, set, drop_of_length-le, get_or-eq_default}
+use lib.ListN.{length, drop, get_or, set, get_or-eq_default}
 use lib.Seq.{drop-cons}
 use Rattle.spec.specs.Choice.{pick, both, either, between}
 use Rattle.spec.specs.Refusals.{name_byte}
 use Rattle.spec.specs.declared.finder.LineState.{LineState}
-use Rattle.spec.specs.Finder.{
-  Collecting,
-  collecting,
-  collect,
-  matched_after,
-  names_byte,
-  line_byte,
-  line_ends,
-  joined_byte,
-  Feeding,
-  feeding,
-  unheld_byte,
-  one_byte,
-  fed,
-  finished,
-}
-use Rattle.laws.proofs.Tests.{both_true, both_false}
+use Rattle.spec.specs.Finder.{Collecting, collecting, collect, matched_after, names_byte, line_byte, line_ends}
+use Rattle.spec.specs.Finder.{Feeding, feeding, joined_byte, unheld_byte, one_byte, fed}
+use Rattle.laws.proofs.Tests.{both_true}
 use Rattle.line_collector.specs.Answers.{at, NoNewline, OtherName}
 
-module _ (l : LineState) (t : List ℕ) (b : ℕ) where
-  pub collect_full : 16385 ≤ l.count → collect (at l t) b ≡ at l t
-  unfolding collect
-  collect_full h = rw (le-ltb l.count 16385 h)
-
-  pub collect_more : l.count < 16385 → collect (at l t) b ≡ collecting l.stage l.matched (l.count + 1) (set t l.count b)
-  unfolding collect
-  collect_more h = rw (lt-ltb l.count 16385 h)
-
-byte_at : (l : List ℕ) (i d e : ℕ) → i < length l → get_or l i d ≡ get_or l i e
-byte_at [] i d e h = absurd (not-suc-le-zero h)
-byte_at (x ∷ l) zero d e h = refl
-byte_at (x ∷ l) (suc i) d e h = byte_at l i d e (le_of_suc-le-suc h)
-
 module _ (name : List ℕ) (k b : ℕ) where
-  pub after_same : k < length name → get_or name k 0 ≡ b → matched_after name k b ≡ k + 1
-  unfolding matched_after
-  after_same h e = rw (byte_at name k 256 0 h, eq-eqb (get_or name k 0) b e)
-
-  pub after_differs : k < length name → (get_or name k 0 ≡ b → ⊥) → matched_after name k b ≡ 65
-  unfolding matched_after
-  after_differs h n = rw (byte_at name k 256 0 h, ne_eqb (get_or name k 0) b n)
-
   pub after_over : length name ≤ k → (256 ≡ b → ⊥) → matched_after name k b ≡ 65
   unfolding matched_after
   after_over h n = rw (get_or-eq_default name 256 h, ne_eqb 256 b n)
 
 module _ (name : List ℕ) (l : LineState) (t : List ℕ) (b : ℕ) where
-  pub names-comment : both (eqb l.count 0) (eqb b 35) ≡ true → names_byte name (at l t) b ≡ collecting 3 0 l.count t
-  unfolding names_byte
-  names-comment e = rw e
-
-  -- a colon or a bar starts no comment
-  not_comment : (b ≡ 58) ⊎ (b ≡ 124) → both (eqb l.count 0) (eqb b 35) ≡ false
-  not_comment (inl e) = rw (ne_eqb b 35 (omega arith)) (both_false (eqb l.count 0))
-  not_comment (inr e) = rw (ne_eqb b 35 (omega arith)) (both_false (eqb l.count 0))
-
-  pub names-asked : (b ≡ 58) ⊎ (b ≡ 124) → l.matched ≡ length name → names_byte name (at l t) b ≡ collect (collecting 2 0 l.count t) b
-  unfolding names_byte
-  names-asked (inl e) q = rw (not_comment (inl e), eq-eqb b 58 e, eq-eqb l.matched (length name) q)
-  names-asked (inr e) q = rw (not_comment (inr e), ne_eqb b 58 (omega arith), eq-eqb b 124 e, eq-eqb l.matched (length name) q)
-
-  pub names-colon : b ≡ 58 → (l.matched ≡ length name → ⊥) → names_byte name (at l t) b ≡ collecting 3 0 l.count t
-  unfolding names_byte
-  names-colon e q = rw (not_comment (inl e), eq-eqb b 58 e, ne_eqb l.matched (length name) q)
-
-  pub names_bar : (b ≡ 58) ⊎ (b ≡ 124) → (b ≡ 58 → ⊥) → (l.matched ≡ length name → ⊥)
-      → names_byte name (at l t) b ≡ collect (collecting 1 0 l.count t) b
-  unfolding names_byte
-  names_bar (inl e) n q = absurd (n e)
-  names_bar (inr e) n q = rw (not_comment (inr e), ne_eqb b 58 n, eq-eqb b 124 e, ne_eqb l.matched (length name) q)
-
   pub names-other : both (eqb l.count 0) (eqb b 35) ≡ false → (b ≡ 58 → ⊥) → (b ≡ 124 → ⊥) → (s m : ℕ)
       → s ≡ pick (either (eqb b 32) (eqb b 9)) l.stage 1 → m ≡ matched_after name l.matched b
       → names_byte name (at l t) b ≡ collect (collecting s m l.count t) b
   unfolding names_byte
   names-other plain n v s m e q = rw (plain, ne_eqb b 58 n, ne_eqb b 124 v, e, q)
 
-  pub line_matching : l.stage ≡ 2 → line_byte name (at l t) b ≡ collect (at l t) b
-  unfolding line_byte
-  line_matching e = rw e
-
   pub line-passed : l.stage ≡ 3 → line_byte name (at l t) b ≡ at l t
   unfolding line_byte
   line-passed e = rw e
-
-  pub line_complete : l.stage ≡ 4 → line_byte name (at l t) b ≡ at l t
-  unfolding line_byte
-  line_complete e = rw e
 
   pub line-names : (l.stage ≡ 2 → ⊥) → (l.stage ≡ 3 → ⊥) → (l.stage ≡ 4 → ⊥) → line_byte name (at l t) b ≡ names_byte name (at l t) b
   unfolding line_byte
@@ -125,38 +56,13 @@ module _ (name : List ℕ) (l : LineState) (t : List ℕ) (b : ℕ) where
   unheld_other n = rw (ne_eqb b 92 n)
 
 module _ (name : List ℕ) (l : LineState) where
-  pub end_complete : l.stage ≡ 4 → (t : List ℕ) → line_ends name (at l t) ≡ at l t
-  unfolding line_ends
-  end_complete e t = rw e
-
-  pub end_matching : l.stage ≡ 2 → (t : List ℕ) → line_ends name (at l t) ≡ collecting 4 0 l.count t
-  unfolding line_ends
-  end_matching e t = rw e
-
-  pub end-blank : l.stage ≡ 0 → (t : List ℕ) → line_ends name (at l t) ≡ collecting 0 0 0 t
-  unfolding line_ends
-  end-blank e t = rw e
-
   pub end-passed : l.stage ≡ 3 → (t : List ℕ) → line_ends name (at l t) ≡ collecting 0 0 0 t
   unfolding line_ends
   end-passed e t = rw e
 
-  module _ (h : l.stage ≡ 4 → ⊥) (i : l.stage ≡ 2 → ⊥) (j : l.stage ≡ 0 → ⊥) (k : l.stage ≡ 3 → ⊥) where
-    pub end-asked : l.matched ≡ length name → (t : List ℕ) → line_ends name (at l t) ≡ collecting 4 0 l.count t
-    unfolding line_ends
-    end-asked e t = rw (ne_eqb l.stage 4 h, ne_eqb l.stage 2 i, ne_eqb l.stage 0 j, ne_eqb l.stage 3 k, eq-eqb l.matched (length name) e)
-
-    pub end-next : (l.matched ≡ length name → ⊥) → (t : List ℕ) → line_ends name (at l t) ≡ collecting 0 0 0 t
-    unfolding line_ends
-    end-next e t = rw (ne_eqb l.stage 4 h, ne_eqb l.stage 2 i, ne_eqb l.stage 0 j, ne_eqb l.stage 3 k, ne_eqb l.matched (length name) e)
-
 -- ---- a byte as it arrives
 
 module _ (name : List ℕ) (x : Collecting) (b h : ℕ) where
-  pub held_pair : b ≡ 10 → (h ≡ 0 → ⊥) → one_byte name (feeding h x) b ≡ feeding 0 x
-  unfolding one_byte
-  held_pair e q = rw (ne_eqb h 0 q, eq-eqb b 10 e)
-
   pub held_released : (b ≡ 10 → ⊥) → (h ≡ 0 → ⊥) → one_byte name (feeding h x) b ≡ unheld_byte name (joined_byte name x 92) b
   unfolding one_byte
   held_released n q = rw (ne_eqb h 0 q, ne_eqb b 10 n)
@@ -167,11 +73,8 @@ module _ (name : List ℕ) (x : Collecting) (b h : ℕ) where
 
 -- ---- a block
 
-pub fed-none : (name s : List ℕ) (f : Feeding) (i : ℕ) → length s ≤ i → fed name f (drop i s) ≡ f
-unfolding fed
-fed-none name s f i h = rw (drop_of_length-le s h)
-
-pub fed-next : (name s : List ℕ) (f : Feeding) (i : ℕ) → i < length s → fed name f (drop i s) ≡ fed name (one_byte name f (get_or s i 0)) (drop (i + 1) s)
+pub fed-next : (name s : List ℕ) (f : Feeding) (i : ℕ) → i < length s
+    → fed name f (drop i s) ≡ fed name (one_byte name f (get_or s i 0)) (drop (i + 1) s)
 unfolding fed
 fed-next name s f i h = rw (add-one, drop-cons s i 0)
 
@@ -294,50 +197,3 @@ other_stays l t b h = go (ltb l.count 16385)
     go : (x : Bool) → OtherName (pick x (collecting l.stage l.matched (l.count + 1) (set t l.count b)) (at l t)).line
     go true = (h.0, h.1, omega arith)
     go false = h
-
-pub moved_on : (s : List ℕ) (from i : ℕ) → from ≤ i → name_byte (get_or s from 0) ≡ true → name_byte (get_or s i 0) ≡ false → from < i
-moved_on s from i h plain stops = go (eqb from i) refl
-  where
-    go : (x : Bool) → eqb from i ≡ x → from < i
-    go true q = absurd (true≢false (sym plain ∙ rw (eqb-true from i q) stops))
-    go false q = let d = eqb-false from i q in omega (arith, h, d)
-
--- ---- stretches without a newline
-
-pub stretch_none : (s : List ℕ) (a : ℕ) → NoNewline s a a
-stretch_none s a = λ k lo hi. absurd (omega (arith, lo, hi))
-
-pub stretch_more : (s : List ℕ) (a m : ℕ) → NoNewline s a m → (get_or s m 0 ≡ 10 → ⊥) → NoNewline s a (m + 1)
-stretch_more s a m f n = λ k lo hi e. go k lo hi e (eqb k m) refl
-  where
-    go : (k : ℕ) → a ≤ k → k < m + 1 → get_or s k 0 ≡ 10 → (y : Bool) → eqb k m ≡ y → ⊥
-    go k lo hi e true q = n (rw (eqb-true k m q) at e)
-    go k lo hi e false q = let d = eqb-false k m q in f k lo (omega (arith, hi, d)) e
-
-pub stretch_join : (s : List ℕ) (a m b : ℕ) → NoNewline s a m → NoNewline s m b → NoNewline s a b
-stretch_join s a m b f g = λ k lo hi e. go k lo hi e (ltb k m) refl
-  where
-    go : (k : ℕ) → a ≤ k → k < b → get_or s k 0 ≡ 10 → (y : Bool) → ltb k m ≡ y → ⊥
-    go k lo hi e true q = f k lo (ltb-true k m q) e
-    go k lo hi e false q = g k (ltb-false k m q) hi e
-
-pub stretch_to : (s : List ℕ) (a m n : ℕ) → NoNewline s a m → m ≡ n → NoNewline s a n
-stretch_to s a m n f e = rw e at f
-
-pub or_left : (x y : Bool) → (x || y) ≡ false → x ≡ false
-or_left true y e = e
-or_left false y e = refl
-
-pub or_right : (x y : Bool) → (x || y) ≡ false → y ≡ false
-or_right true y e = absurd (true≢false e)
-or_right false y e = e
-
--- ---- the end
-
-pub finished-held : (name : List ℕ) (x : Collecting) (h : ℕ) → (h ≡ 0 → ⊥) → finished name (feeding h x) ≡ line_ends name (joined_byte name x 92)
-unfolding finished
-finished-held name x h e = rw (ne_eqb h 0 e)
-
-pub finished_unheld : (name : List ℕ) (x : Collecting) (h : ℕ) → h ≡ 0 → finished name (feeding h x) ≡ line_ends name x
-unfolding finished
-finished_unheld name x h e = rw (eq-eqb h 0 e)

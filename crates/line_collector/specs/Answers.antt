@@ -11,6 +11,10 @@ at l t = record { line = l; text = t }
 abbrev pub placed : Place → List ℕ → Feeding
 placed p t = feeding p.held (at p.line t)
 
+-- A line in another stage, with no byte of a name.
+abbrev pub in_stage : LineState → ℕ → LineState
+in_stage l stage = record { stage = stage; matched = 0; count = l.count }
+
 -- No newline stands from a place up to another.
 abbrev pub NoNewline : List ℕ → ℕ → ℕ → Type 0
 NoNewline s from to = (k : ℕ) → from ≤ k → k < to → get_or s k 0 ≡ 10 → ⊥

@@ -6,14 +6,14 @@ ghost use Rattle.std.specs.Prelude.{◌≡◌, true, false, List, ◌⊎◌, ℕ
 ghost use Rattle.spec.specs.Choice.{pick, both, either};
 ghost use Rattle.spec.specs.Refusals.{name_byte};
 ghost use Rattle.spec.specs.Finder.{collect, matched_after, names_byte, line_byte, line_ends, joined_byte, feeding, fed, unheld_byte, one_byte, finished};
-ghost use Rattle.line_collector.specs.Answers.{at, placed, NoNewline, OtherName};
+ghost use Rattle.line_collector.specs.Answers.{at, placed, in_stage, NoNewline, OtherName};
 
 use fields::is_name_byte;
 use spec::finder::{LONGEST_LINE, LineState};
 use stores::put_byte;
 
-// The stages of a line; any other number means that its names are being read.
-pub const BLANK: u8 = 0;
+// The stages of a line; any other number means that its names are being read. No enum: any byte comes in from C, and a blank leaves it there.
+const BLANK: u8 = 0;
 
 const NAMES: u8 = 1;
 
@@ -23,10 +23,16 @@ const PASSED: u8 = 3;
 
 pub const COMPLETE: u8 = 4;
 
+pub const LINE_START: LineState = LineState {
+    stage: BLANK,
+    matched: 0,
+    count: 0,
+};
+
 // A present name that is not the start of the asked one.
 const DIFFERS: u8 = 65;
 
-// Where a finder stands between two bytes.
+// Where a finder stands between two bytes. `held` is no bool: any byte comes in from C, and an empty block leaves it there.
 #[derive(Clone, Copy)]
 pub struct Place {
     pub held: u8,
@@ -35,162 +41,125 @@ pub struct Place {
 
 // ---- a byte of the joined text
 
+// The name and its limit are parameters: of a struct that lends the name each clause would speak as `asked.entry.name.now`.
+
+#[tactic(auto, unfolding(spec::specs::Finder::collect))]
 fn collect_byte(l: LineState, text: &mut [u8], b: u8) -> LineState
     ensures { at result text.new ≡ collect (at l text.old) b }
 {
-    let n = l.count;
-    if n > LONGEST_LINE {
+    if l.count > LONGEST_LINE {
         return l;
     }
-    put_byte(text, n as usize, b);
+    put_byte(text, l.count as usize, b);
     LineState {
-        stage: l.stage,
-        matched: l.matched,
-        count: n + 1,
+        count: l.count + 1,
+        ..l
     }
 }
 
+// A line in another stage, with no byte of a name.
+fn in_stage(l: LineState, stage: u8) -> LineState
+    ensures { result ≡ in_stage l stage }
+{
+    LineState {
+        stage,
+        matched: 0,
+        ..l
+    }
+}
+
+#[tactic(auto, unfolding(spec::specs::Finder::matched_after))]
 fn matched_after(name: &[u8], k: u8, b: u8) -> u8
     requires { length name.now ≤ 64 }
     ensures { result ≡ matched_after name.now k b }
 {
-    let i = k as usize;
-    if i < name.len() {
-        if name[i] == b {
-            return k + 1;
-        }
+    match name.get(k as usize) {
+        Some(c) if *c == b => k + 1,
+        _ => DIFFERS,
     }
-    DIFFERS
 }
 
 // "Lines that start with `#`": the first byte of a line, before any was collected.
 fn starts_comment(count: u16, b: u8) -> bool
     ensures { result ≡ both (eqb count 0) (eqb b 35) }
 {
-    if count == 0 {
-        return b == b'#';
-    }
-    false
+    count == 0 && b == b'#'
 }
 
 // A blank leaves a blank line blank.
 fn stage_after(stage: u8, b: u8) -> u8
     ensures { result ≡ pick (either (eqb b 32) (eqb b 9)) stage 1 }
 {
-    if b == b' ' {
-        return stage;
+    match b {
+        b' ' | b'\t' => stage,
+        _ => NAMES,
     }
-    if b == b'\t' {
-        return stage;
-    }
-    NAMES
 }
 
 // A colon or a bar ends the present name: the asked one, or another; a colon ends the names.
+#[tactic(auto, unfolding(spec::specs::Finder::names_byte))]
 fn end_name(name: &[u8], l: LineState, text: &mut [u8], b: u8) -> LineState
     requires { (b ≡ 58) ⊎ (b ≡ 124) }
     ensures { at result text.new ≡ names_byte name.now (at l text.old) b }
 {
-    let n = l.count;
     if l.matched as usize == name.len() {
-        let matching = LineState {
-            stage: MATCHING,
-            matched: 0,
-            count: n,
-        };
-        return collect_byte(matching, text, b);
+        return collect_byte(in_stage(l, MATCHING), text, b);
     }
     if b == b':' {
-        return LineState {
-            stage: PASSED,
-            matched: 0,
-            count: n,
-        };
+        return in_stage(l, PASSED);
     }
-    let next = LineState {
-        stage: NAMES,
-        matched: 0,
-        count: n,
-    };
-    collect_byte(next, text, b)
+    collect_byte(in_stage(l, NAMES), text, b)
 }
 
+#[tactic(auto, unfolding(spec::specs::Finder::names_byte))]
 fn names_byte(name: &[u8], l: LineState, text: &mut [u8], b: u8) -> LineState
     requires { length name.now ≤ 64 }
     ensures { at result text.new ≡ names_byte name.now (at l text.old) b }
 {
-    let n = l.count;
-    if starts_comment(n, b) {
-        return LineState {
-            stage: PASSED,
-            matched: 0,
-            count: n,
-        };
+    if starts_comment(l.count, b) {
+        return in_stage(l, PASSED);
     }
-    if b == b':' {
-        return end_name(name, l, text, b);
+    match b {
+        b':' | b'|' => end_name(name, l, text, b),
+        _ => {
+            let longer = LineState {
+                stage: stage_after(l.stage, b),
+                matched: matched_after(name, l.matched, b),
+                ..l
+            };
+            collect_byte(longer, text, b)
+        }
     }
-    if b == b'|' {
-        return end_name(name, l, text, b);
-    }
-    let longer = LineState {
-        stage: stage_after(l.stage, b),
-        matched: matched_after(name, l.matched, b),
-        count: n,
-    };
-    collect_byte(longer, text, b)
 }
 
+#[tactic(auto, unfolding(spec::specs::Finder::line_byte))]
 fn line_byte(name: &[u8], l: LineState, text: &mut [u8], b: u8) -> LineState
     requires { length name.now ≤ 64 }
     ensures { at result text.new ≡ line_byte name.now (at l text.old) b }
 {
-    let stage = l.stage;
-    if stage == MATCHING {
-        return collect_byte(l, text, b);
+    match l.stage {
+        MATCHING => collect_byte(l, text, b),
+        PASSED | COMPLETE => l,
+        _ => names_byte(name, l, text, b),
     }
-    if stage == PASSED {
-        return l;
-    }
-    if stage == COMPLETE {
-        return l;
-    }
-    names_byte(name, l, text, b)
 }
 
 // The line ends; the text stays as it is.
+#[tactic(auto, unfolding(spec::specs::Finder::line_ends))]
 fn end_line(name: &[u8], l: LineState) -> LineState
     ensures { (t : List ℕ) → at result t ≡ line_ends name.now (at l t) }
 {
-    let stage = l.stage;
-    let complete = LineState {
-        stage: COMPLETE,
-        matched: 0,
-        count: l.count,
-    };
-    let next = LineState {
-        stage: BLANK,
-        matched: 0,
-        count: 0,
-    };
-    if stage == COMPLETE {
-        return l;
+    let complete = in_stage(l, COMPLETE);
+    match l.stage {
+        COMPLETE => l,
+        MATCHING => complete,
+        BLANK | PASSED => LINE_START,
+        _ if l.matched as usize == name.len() => complete,
+        _ => LINE_START,
     }
-    if stage == MATCHING {
-        return complete;
-    }
-    if stage == BLANK {
-        return next;
-    }
-    if stage == PASSED {
-        return next;
-    }
-    if l.matched as usize == name.len() {
-        return complete;
-    }
-    next
 }
 
+#[tactic(auto, unfolding(spec::specs::Finder::joined_byte))]
 fn joined_byte(name: &[u8], l: LineState, text: &mut [u8], b: u8) -> LineState
     requires { length name.now ≤ 64 }
     ensures { at result text.new ≡ joined_byte name.now (at l text.old) b }
@@ -207,12 +176,10 @@ fn joined_byte(name: &[u8], l: LineState, text: &mut [u8], b: u8) -> LineState
 fn holds(b: u8) -> u8
     ensures { result ≡ pick (eqb b 92) 1 0 }
 {
-    if b == b'\\' {
-        return 1;
-    }
-    0
+    u8::from(b == b'\\')
 }
 
+#[tactic(auto, unfolding(spec::specs::Finder::unheld_byte))]
 fn unheld_byte(name: &[u8], l: LineState, text: &mut [u8], b: u8) -> Place
     requires { length name.now ≤ 64 }
     ensures { placed result text.new ≡ unheld_byte name.now (at l text.old) b }
@@ -221,223 +188,181 @@ fn unheld_byte(name: &[u8], l: LineState, text: &mut [u8], b: u8) -> Place
         return Place { held: 1, line: l };
     }
     let line = joined_byte(name, l, text, b);
-    Place {
-        held: 0,
-        line: line,
-    }
+    Place { held: 0, line }
 }
 
+#[tactic(auto, unfolding(spec::specs::Finder::one_byte))]
 fn one_byte(name: &[u8], p: Place, text: &mut [u8], b: u8) -> Place
     requires { length name.now ≤ 64 }
     ensures { placed result text.new ≡ one_byte name.now (placed p text.old) b }
 {
-    let line = p.line;
-    if p.held != 0 {
-        if b == b'\n' {
-            return Place {
-                held: 0,
-                line: line,
-            };
+    let Place { held, line } = p;
+    match (held, b) {
+        (0, _) => unheld_byte(name, line, text, b),
+        (_, b'\n') => Place { held: 0, line },
+        _ => {
+            let released = joined_byte(name, line, text, b'\\');
+            unheld_byte(name, released, text, b)
         }
-        let released = joined_byte(name, line, text, b'\\');
-        return unheld_byte(name, released, text, b);
     }
-    unheld_byte(name, line, text, b)
 }
 
 // ---- a block
 
+// The loop has no exit, so that all sixteen bytes are compared at once.
 fn any_newline(s: &[u8], from: usize) -> bool
     requires { from + 16 ≤ length s.now }
     ensures { result ≡ false → NoNewline s.now from (from + 16) }
 {
     let mut hit = false;
-    let mut k = 0;
-    while k < 16 {
-        hit = hit | (s[from + k] == b'\n');
-        k += 1;
+    for k in 0..16 {
+        hit |= s[from + k] == b'\n';
     }
     hit
 }
 
-// The first newline from a place on, or the end: byte by byte.
+// The first newline from a place on, or the end, byte by byte: with `position` over the rest a database in blocks took an eighth longer.
 fn first_newline(s: &[u8], from: usize) -> usize
-    ensures { (from ≤ length s.now → (from ≤ result) × (result ≤ length s.now)) × NoNewline s.now from result }
+    requires { from ≤ length s.now }
+    ensures { (from ≤ result) × (result ≤ length s.now) × NoNewline s.now from result }
 {
-    let mut i = from;
-    while i < s.len() {
+    for i in from..s.len() {
         if s[i] == b'\n' {
             return i;
         }
-        i += 1;
     }
-    i
+    s.len()
 }
 
-// The same, sixteen bytes at a time.
-fn next_newline(s: &[u8], from: usize) -> usize
-    ensures { (from ≤ length s.now → (from ≤ result) × (result ≤ length s.now)) × NoNewline s.now from result }
+// The first newline, or the end, sixteen bytes at a time. By index: over `as_chunks` the place would be `16 * k`, and the rest a case of its own.
+fn next_newline(s: &[u8]) -> usize
+    ensures { (result ≤ length s.now) × NoNewline s.now 0 result }
 {
-    let mut i = from;
-    while i < s.len() {
-        if s.len() - i >= 16 {
-            if !any_newline(s, i) {
-                i += 16;
-                continue;
-            }
-        }
-        return first_newline(s, i);
+    let mut i = 0;
+    while s.len() - i >= 16 && !any_newline(s, i) {
+        i += 16;
     }
-    i
+    first_newline(s, i)
 }
 
-// A place in a block, and how the finder stands before the byte there.
+// How many bytes of a block were taken, and how the finder stands behind them.
 #[derive(Clone, Copy)]
 pub struct Step {
     pub place: Place,
-    pub next: usize,
+    pub taken: usize,
 }
 
 // A byte of a name that differs from the asked one already, in a line that has begun: it can only be collected.
 fn is_collected_only(p: Place, b: u8) -> bool
     ensures { result ≡ true → (p.held ≡ 0) × OtherName p.line × (name_byte b ≡ true) }
 {
-    let line = p.line;
-    if p.held != 0 {
-        return false;
-    }
-    if line.stage != NAMES {
-        return false;
-    }
-    if line.matched != DIFFERS {
-        return false;
-    }
-    if line.count == 0 {
-        return false;
-    }
-    is_name_byte(b)
+    let Place { held, line } = p;
+    held == 0 && line.stage == NAMES && line.matched == DIFFERS && line.count > 0 && is_name_byte(b)
+}
+
+fn collected(line: LineState, taken: usize) -> Step
+    ensures { (result.place.held ≡ 0) × (result.place.line ≡ line) × (result.taken ≡ taken) }
+{
+    let place = Place { held: 0, line };
+    Step { place, taken }
 }
 
 // Bytes of such a name, up to the first that may end it.
-fn collect_name(l: LineState, block: &[u8], from: usize, text: &mut [u8]) -> Step
-    requires { OtherName l × (from < length block.now) × (name_byte (get_or block.now from 0) ≡ true) }
-    ensures { (from < result.next) × (result.next ≤ length block.now)
-        × ((name : List ℕ) → length name ≤ 64 → fed name (feeding 0 (at l text.old)) (drop from block.now)
-        ≡ fed name (placed result.place text.new) (drop result.next block.now)) }
+fn collect_name(l: LineState, rest: &[u8], text: &mut [u8]) -> Step
+    requires { OtherName l × (0 < length rest.now) × (name_byte (get_or rest.now 0 0) ≡ true) }
+    ensures { (0 < result.taken) × (result.taken ≤ length rest.now)
+        × ((name : List ℕ) → length name ≤ 64 → fed name (feeding 0 (at l text.old)) rest.now
+        ≡ fed name (placed result.place text.new) (drop result.taken rest.now)) }
 {
     let mut line = l;
-    let mut i = from;
-    while i < block.len() {
-        let b = block[i];
-        if !is_name_byte(b) {
-            break;
+    for (i, b) in rest.iter().enumerate() {
+        if !is_name_byte(*b) {
+            return collected(line, i);
         }
-        line = collect_byte(line, text, b);
-        i += 1;
+        line = collect_byte(line, text, *b);
     }
-    Step {
-        place: Place {
-            held: 0,
-            line: line,
-        },
-        next: i,
-    }
+    collected(line, rest.len())
 }
 
 // A newline that no backslash takes away, and a comment behind it.
-fn is_comment_next(held: u8, block: &[u8], at: usize) -> bool
-    requires { at < length block.now }
-    ensures { result ≡ true → (held ≡ 0) × (get_or block.now at 0 ≡ 10) × (at + 1 < length block.now)
-        × (get_or block.now (at + 1) 0 ≡ 35) }
+fn is_comment_next(held: u8, rest: &[u8]) -> bool
+    ensures { result ≡ true → (held ≡ 0) × (get_or rest.now 0 0 ≡ 10) × (1 < length rest.now) × (get_or rest.now 1 0 ≡ 35) }
 {
-    if held != 0 {
-        return false;
-    }
-    if block[at] != b'\n' {
-        return false;
-    }
-    if block.len() - at < 2 {
-        return false;
-    }
-    block[at + 1] == b'#'
+    held == 0 && rest.starts_with(b"\n#")
 }
 
 // A line that cannot have the name: its rest is passed over, and so is the start of a comment behind it.
-fn pass_line(p: Place, block: &[u8], from: usize) -> Step
-    requires { (p.line.stage ≡ 3) × (from < length block.now) }
-    ensures { (from ≤ result.next) × (result.next ≤ length block.now)
-        × ((name text : List ℕ) → fed name (placed p text) (drop from block.now)
-        ≡ fed name (placed result.place text) (drop result.next block.now)) }
+fn pass_line(p: Place, rest: &[u8]) -> Step
+    requires { p.line.stage ≡ 3 }
+    ensures { (result.taken ≤ length rest.now)
+        × ((name text : List ℕ) → fed name (placed p text) rest.now
+        ≡ fed name (placed result.place text) (drop result.taken rest.now)) }
 {
-    let line = p.line;
-    let to = next_newline(block, from);
-    if to > from {
+    let to = next_newline(rest);
+    if to > 0 {
+        let held = holds(rest[to - 1]);
         return Step {
-            place: Place {
-                held: holds(block[to - 1]),
-                line: line,
-            },
-            next: to,
+            place: Place { held, ..p },
+            taken: to,
         };
     }
-    if is_comment_next(p.held, block, from) {
-        let comment = LineState {
+    if is_comment_next(p.held, rest) {
+        let line = LineState {
             stage: PASSED,
-            matched: 0,
-            count: 0,
+            ..LINE_START
         };
         return Step {
-            place: Place {
-                held: 0,
-                line: comment,
-            },
-            next: from + 2,
+            place: Place { held: 0, line },
+            taken: 2,
         };
     }
-    Step {
-        place: p,
-        next: from,
-    }
+    Step { place: p, taken: 0 }
 }
 
-// The bytes of a block from a place on: the rest of a line that cannot have the name is passed over, and the rest of a name that differs is
-// collected; any other byte goes alone.
-fn next_step(name: &[u8], p: Place, block: &[u8], from: usize, text: &mut [u8]) -> Step
-    requires { (length name.now ≤ 64) × (from < length block.now) }
-    ensures { (from < result.next) × (result.next ≤ length block.now)
-        × (fed name.now (placed p text.old) (drop from block.now)
-        ≡ fed name.now (placed result.place text.new) (drop result.next block.now)) }
+// What is left of a block: the rest of a line that cannot have the name is passed over, and the rest of a name that differs is collected; any
+// other byte goes alone.
+fn next_step(name: &[u8], p: Place, rest: &[u8], text: &mut [u8]) -> Step
+    requires { (length name.now ≤ 64) × (0 < length rest.now) }
+    ensures { (0 < result.taken) × (result.taken ≤ length rest.now)
+        × (fed name.now (placed p text.old) rest.now
+        ≡ fed name.now (placed result.place text.new) (drop result.taken rest.now)) }
 {
-    let line = p.line;
-    if line.stage == PASSED {
-        let passed = pass_line(p, block, from);
-        if passed.next > from {
+    if p.line.stage == PASSED {
+        let passed = pass_line(p, rest);
+        if passed.taken > 0 {
             return passed;
         }
     }
-    let b = block[from];
+    let b = rest[0];
     if is_collected_only(p, b) {
-        return collect_name(line, block, from, text);
+        return collect_name(p.line, rest, text);
     }
     Step {
         place: one_byte(name, p, text, b),
-        next: from + 1,
+        taken: 1,
     }
 }
 
+#[tactic(auto, unfolding(spec::specs::Finder::fed))]
 fn feed_block(name: &[u8], p: Place, block: &[u8], text: &mut [u8]) -> Place
     requires { length name.now ≤ 64 }
     ensures { placed result text.new ≡ fed name.now (placed p text.old) block.now }
 {
     let mut q = p;
-    let mut i = 0;
-    while i < block.len() {
-        let s = next_step(name, q, block, i, text);
-        let place = s.place;
+    let mut rest = block;
+    while !rest.is_empty() {
+        let Step { place, taken } = next_step(name, q, rest, text);
         q = place;
-        i = s.next;
+        rest = &rest[taken..];
     }
     q
+}
+
+// The first `size` bytes of a name, or all of them.
+fn asked_part(name: &[u8], size: usize) -> &[u8]
+    ensures { result.now ≡ take size name.now }
+{
+    name.get(..size).unwrap_or(name)
 }
 
 // The asked name is the first `size` bytes of `name`, or all of them.
@@ -445,30 +370,25 @@ pub fn feed_named(name: &[u8], size: usize, p: Place, block: &[u8], text: &mut [
     requires { length name.now ≤ 64 }
     ensures { placed result text.new ≡ fed (take size name.now) (placed p text.old) block.now }
 {
-    if size < name.len() {
-        return feed_block(&name[..size], p, block, text);
-    }
-    feed_block(name, p, block, text)
+    feed_block(asked_part(name, size), p, block, text)
 }
 
+#[tactic(auto, unfolding(spec::specs::Finder::finished))]
 fn finish(name: &[u8], p: Place, text: &mut [u8]) -> LineState
     requires { length name.now ≤ 64 }
     ensures { at result text.new ≡ finished name.now (placed p text.old) }
 {
-    let line = p.line;
-    if p.held != 0 {
-        let released = joined_byte(name, line, text, b'\\');
-        return end_line(name, released);
+    let Place { held, line } = p;
+    if held == 0 {
+        return end_line(name, line);
     }
-    end_line(name, line)
+    let released = joined_byte(name, line, text, b'\\');
+    end_line(name, released)
 }
 
 pub fn finish_named(name: &[u8], size: usize, p: Place, text: &mut [u8]) -> LineState
     requires { length name.now ≤ 64 }
     ensures { at result text.new ≡ finished (take size name.now) (placed p text.old) }
 {
-    if size < name.len() {
-        return finish(&name[..size], p, text);
-    }
-    finish(name, p, text)
+    finish(asked_part(name, size), p, text)
 }

@@ -7,74 +7,54 @@ ghost use Rattle.spec.specs.Lists.{same};
 ghost use Rattle.spec.specs.Lines.{text_at, line_text, blank, is_ignored, first_name, extent};
 ghost use Rattle.lines.specs.Answers.{Peeked, NextName, NextLine};
 
-// What the joined text at a place starts with: a byte, with the place after it, or the end of the database.
-#[derive(Clone, Copy)]
-pub enum Step {
-    Byte(u8, usize),
-    End,
-}
-
-// The place where the next name, or the next line, starts, if there is one.
-#[derive(Clone, Copy)]
-pub enum Next {
-    To(usize),
-    Last,
-}
-
-// The first byte of the joined text at a place.
-pub fn peek(s: &[u8], at: usize) -> Step
+// The first byte of the joined text at a place, with the place after it; none at the end of the database.
+pub fn peek(s: &[u8], at: usize) -> Option<(u8, usize)>
     ensures { Peeked s.now at result }
 {
     let mut i = at;
     while i < s.len() {
         let b = s[i];
         let j = i + 1;
-        if b == 92 {
-            if j < s.len() {
-                if s[j] == 10 {
-                    i = j + 1;
-                    continue;
-                }
-            }
+        if b == b'\\' && j < s.len() && s[j] == b'\n' {
+            i = j + 1;
+            continue;
         }
-        return Step::Byte(b, j);
+        return Some((b, j));
     }
-    Step::End
+    None
 }
 
 // Whether the line at a place has only spaces and tabs.
+#[tactic(auto, unfolding(spec::specs::Lines::blank, spec::specs::Lines::line_text))]
 fn is_blank(s: &[u8], at: usize) -> bool
     ensures { result ≡ blank (line_text (text_at s.now at)) }
 {
     let mut i = at;
     loop {
         match peek(s, i) {
-            Step::Byte(b, n) => match b {
-                10 => return true,
-                32 | 9 => i = n,
+            Some((b, n)) => match b {
+                b'\n' => return true,
+                b' ' | b'\t' => i = n,
                 _ => return false,
             },
-            Step::End => return true,
+            None => return true,
         }
     }
 }
 
 // Whether the line at a place is ignored.
+#[tactic(auto, unfolding(spec::specs::Lines::comment, spec::specs::Lines::blank, spec::specs::Lines::line_text))]
 pub fn is_ignored(s: &[u8], at: usize) -> bool
     ensures { result ≡ is_ignored (line_text (text_at s.now at)) }
 {
     match peek(s, at) {
-        Step::Byte(b, _) => {
-            if b == 35 {
-                return true;
-            }
-            is_blank(s, at)
-        }
-        Step::End => true,
+        Some((b, _)) => b == b'#' || is_blank(s, at),
+        None => true,
     }
 }
 
 // Whether the first name of the line at a place has `count` bytes.
+#[tactic(auto, using(laws::proofs::TextSteps::name_on), unfolding(spec::specs::Lines::first_name, spec::specs::Lines::line_text, spec::specs::Lists::upto))]
 pub fn has_length(s: &[u8], at: usize, count: usize) -> bool
     ensures { result ≡ eqb (length (first_name (line_text (text_at s.now at)))) count }
 {
@@ -82,22 +62,21 @@ pub fn has_length(s: &[u8], at: usize, count: usize) -> bool
     let mut k = 0;
     loop {
         match peek(s, i) {
-            Step::Byte(b, n) => match b {
-                10 | 58 | 124 => return k == count,
+            Some((b, n)) => match b {
+                b'\n' | b':' | b'|' => return k == count,
+                _ if k == count => return false,
                 _ => {
-                    if k == count {
-                        return false;
-                    }
                     k += 1;
                     i = n;
                 }
             },
-            Step::End => return k == count,
+            None => return k == count,
         }
     }
 }
 
 // Whether the first name of the line at a place is `name`, byte by byte.
+#[tactic(auto, using(laws::proofs::TextSteps::name_on, laws::proofs::TextSteps::same_next, laws::proofs::TextSteps::same_differs))]
 pub fn is_equal(s: &[u8], at: usize, name: &[u8]) -> bool
     ensures { result ≡ same name.now (first_name (line_text (text_at s.now at))) }
 {
@@ -105,83 +84,79 @@ pub fn is_equal(s: &[u8], at: usize, name: &[u8]) -> bool
     let mut k = 0;
     loop {
         match peek(s, i) {
-            Step::Byte(b, n) => match b {
-                10 | 58 | 124 => return k == name.len(),
-                _ => {
-                    if k < name.len() {
-                        if name[k] == b {
-                            k += 1;
-                            i = n;
-                            continue;
-                        }
-                    }
-                    return false;
+            Some((b, n)) => match b {
+                b'\n' | b':' | b'|' => return k == name.len(),
+                _ if k < name.len() && name[k] == b => {
+                    k += 1;
+                    i = n;
                 }
+                _ => return false,
             },
-            Step::End => return k == name.len(),
+            None => return k == name.len(),
         }
     }
 }
 
 // Whether the first name of the line at a place is `name`. No byte is compared of a name that has another length.
+#[tactic(auto, using(laws::proofs::WholeLines::other_length))]
 pub fn is_name(s: &[u8], at: usize, name: &[u8]) -> bool
     ensures { result ≡ same name.now (first_name (line_text (text_at s.now at))) }
 {
-    if has_length(s, at, name.len()) {
-        return is_equal(s, at, name);
-    }
-    false
+    has_length(s, at, name.len()) && is_equal(s, at, name)
 }
 
 // Where the name after the one at a place starts.
-pub fn next_name(s: &[u8], at: usize) -> Next
+#[tactic(auto, using(laws::proofs::TextSteps::names_on))]
+pub fn next_name(s: &[u8], at: usize) -> Option<usize>
     ensures { NextName s.now at result }
 {
     let mut i = at;
     loop {
         match peek(s, i) {
-            Step::Byte(b, n) => match b {
-                10 | 58 => return Next::Last,
-                124 => return Next::To(n),
+            Some((b, n)) => match b {
+                b'\n' | b':' => return None,
+                b'|' => return Some(n),
                 _ => i = n,
             },
-            Step::End => return Next::Last,
+            None => return None,
         }
     }
 }
 
 // Where the line at a place ends, its closing newline not counted.
+#[tactic(auto, using(laws::proofs::Extents::extent_on), unfolding(spec::specs::Lines::extent, spec::specs::Lines::line_end))]
 pub fn line_end(db: &[u8], at: usize) -> usize
     ensures { result ≡ extent db.now at }
 {
     let mut i = at;
     loop {
         match peek(db, i) {
-            Step::Byte(b, n) => {
-                if b == 10 {
+            Some((b, n)) => {
+                if b == b'\n' {
                     return n - 1;
                 }
                 i = n;
             }
-            Step::End => return db.len(),
+            None => return db.len(),
         }
     }
 }
 
 // Where the line after the one at a place starts.
-pub fn next_line(db: &[u8], at: usize) -> Next
+#[tactic(auto, unfolding(spec::specs::Lines::later_lines))]
+pub fn next_line(db: &[u8], at: usize) -> Option<usize>
     ensures { NextLine db.now at result }
 {
     let mut i = at;
     loop {
         match peek(db, i) {
-            Step::Byte(b, n) => {
-                if b == 10 {
-                    return Next::To(n);
+            Some((b, n)) => {
+                if b == b'\n' {
+                    return Some(n);
                 }
                 i = n;
             }
-            Step::End => return Next::Last,
+            None => return None,
         }
     }
 }

@@ -1,5 +1,6 @@
 -- THE LISTS ARE THE DEFINITION'S LINKS: by where the lines start and where the names are found.
 -- Assumes nothing.
+use Rattle.std.specs.Prelude.{Option, Some, None}
 use Prim.Native.Nat.{ℕ, zero, suc, ◌+◌, ◌≤◌, ◌<◌}
 use mathlib.Core.Path.{◌≡◌, refl, ◌∙◌, ap}
 use mathlib.Core.Bool.{Bool, true, false, not}
@@ -16,8 +17,6 @@ use Rattle.spec.specs.Lines.{Text, end, byte, join, text_at, Line, line_text, la
 use Rattle.spec.specs.Fields.{Reading, malformed, ignored, link, capability, reading, Verdict, malformed_line, no_link, link_to}
 use Rattle.spec.specs.Repair.{lines_of, is_dropped, left, field_pieces, first_link, link_of, line_link}
 use Rattle.spec.specs.Repair.{Link, with_link, links_among, removed_links, reason_at, link_removals}
-use Rattle.spec.specs.declared.Found.{Found}
-use Rattle.spec.specs.declared.Found.TheVariants.{At, Nothing}
 use Rattle.laws.proofs.RisingLines.{Rising, rising-from, rising-left, rising_lines}
 use Rattle.link_targets.specs.Targets.{name_at, place_of, Targets, ShortNames}
 use Rattle.link_rings.specs.Rings.{found_of, links_of, reasons_of, Starts}
@@ -30,20 +29,20 @@ abbrev pub Inside : ℕ → List Line → Type 0
 Inside size [] = Unit {0}
 Inside size (l ∷ ls) = (l.start ≤ size) × Inside size ls
 
-found_within : (size : ℕ) (name : List ℕ) (ls : List Line) (p : ℕ) → Inside size ls → find name ls ≡ At p → p ≤ size
+found_within : (size : ℕ) (name : List ℕ) (ls : List Line) (p : ℕ) → Inside size ls → find name ls ≡ Some p → p ≤ size
 unfolding find
 found_within size name [] p i e = let z : ◌≡◌ {A = ℕ} 0 1 = cc in absurd (omega arith)
 found_within size name (l ∷ ls) p i e = go (both (not (is_ignored l.text)) (has_name name l.text)) e (found_within size name ls p i.1)
   where
-    go : (x : Bool) → pick x (At l.start) (find name ls) ≡ At p → (find name ls ≡ At p → p ≤ size) → p ≤ size
+    go : (x : Bool) → pick x (Some l.start) (find name ls) ≡ Some p → (find name ls ≡ Some p → p ≤ size) → p ≤ size
     go true q ih = let s : l.start ≡ p = cc in omega (arith, i.0)
     go false q ih = ih q
 
 -- a place as a number, and back
-there_and_back : (f : Found) → ((p : ℕ) → f ≡ At p → p ≤ 1048576) → found_of (place_of f) ≡ f
+there_and_back : (f : Option ℕ) → ((p : ℕ) → f ≡ Some p → p ≤ 1048576) → found_of (place_of f) ≡ f
 unfolding found_of place_of
-there_and_back Nothing h = refl
-there_and_back (At p) h =
+there_and_back None h = refl
+there_and_back (Some p) h =
     let m = h p refl in
     let n : p ≡ 1048577 → ⊥ = λ e. omega arith in
     rw (ne_eqb p 1048577 n)
@@ -77,8 +76,8 @@ module _ (db : List ℕ) (among : List Line) (inside : Inside 1048576 among) whe
       one_link l.start (line_link l.text) ls (link_names ls) (link_starts ls) (links_among among ls) (links_are ls) names tos e m t
 
 -- THE LISTS: what `list_links` lists and `find_targets` finds are the links of the definition.
-pub links_found : (db names tos : List ℕ) → Inside 1048576 (left (lines_of db)) → names_at db names ≡ link_names (left (lines_of db)) → length tos ≡ length names
-    → Targets db names tos (length names)
+pub links_found : (db names tos : List ℕ) → Inside 1048576 (left (lines_of db)) → names_at db names ≡ link_names (left (lines_of db))
+    → length tos ≡ length names → Targets db names tos (length names)
     → links_among (left (lines_of db)) (left (lines_of db)) ≡ links_of (link_starts (left (lines_of db))) tos
 unfolding Targets
 links_found db names tos i e l t = links_are db (left (lines_of db)) i (left (lines_of db)) names tos e l t
@@ -257,11 +256,13 @@ listed-starts db ats h e = rw e (starts-good db h)
 
 pub listed_reasons : (db ats names tos reasons : List ℕ) → length db ≤ 1048576 → ats ≡ link_starts (left (lines_of db)) → names_at db names
     ≡ link_names (left (lines_of db))
-    → length names ≡ length ats → length tos ≡ length ats → Targets db names tos (length names) → reasons ≡ reasons_of (links_of ats tos) → Reasons db ats reasons
+    → length names ≡ length ats → length tos ≡ length ats → Targets db names tos (length names)
+    → reasons ≡ reasons_of (links_of ats tos) → Reasons db ats reasons
 unfolding Reasons
 listed_reasons db ats names tos reasons small e texts n t found r i h =
     let same : length tos ≡ length names = omega arith in
     let starts : length tos ≡ length (link_starts (left (lines_of db))) = t ∙ ap length e in
     let judged : reasons ≡ reasons_of (links_of (link_starts (left (lines_of db))) tos) = r ∙ ap (λ (l : List ℕ). reasons_of (links_of l tos)) e in
     let inside : i < length (link_starts (left (lines_of db))) = omega (arith, ap length e) in
-    ap (λ (l : List ℕ). reason_at (link_removals (lines_of db)) (get_or l i 0)) e ∙ reasons_right db names tos small texts same found starts reasons judged i inside
+    ap (λ (l : List ℕ). reason_at (link_removals (lines_of db)) (get_or l i 0)) e
+    ∙ reasons_right db names tos small texts same found starts reasons judged i inside

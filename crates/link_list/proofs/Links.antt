@@ -1,5 +1,6 @@
 -- The first link of a line's fields, field by field.
 -- Assumes nothing.
+use Rattle.std.specs.Prelude.{Some, None}
 use Prim.Native.Nat.{ℕ, ◌+◌}
 use mathlib.Core.Path.{◌≡◌, refl, ◌∙◌, ap, sym}
 use mathlib.Core.Bool.{Bool, true, false, not}
@@ -20,12 +21,10 @@ use Rattle.field_bounds.proofs.Parts.{part, part_at, part_fields}
 use Rattle.field_bounds.proofs.Pieces.{no_fields}
 use Rattle.laws.proofs.Judging.{reading-good}
 use Rattle.field_bounds.specs.Answers.{field_at, NamesPassed}
-use Rattle.field_bounds.specs.declared.AfterNames.TheVariants.{At as NamesTo}
 use Rattle.fields.specs.Readings.{Reads}
 use Rattle.fields.specs.declared.FieldRead.{FieldRead}
 use Rattle.fields.specs.declared.FieldRead.TheVariants.{Malformed, Ignored, Link, Cancel, Flag, Number, String}
 use Rattle.link_targets.specs.Targets.{name_at}
-use Rattle.spec.specs.declared.Found.TheVariants.{At, Nothing}
 use Rattle.link_list.specs.Listing.{link_in, FirstLinked, Linked}
 
 -- ---- a link's name has no bar
@@ -131,13 +130,13 @@ seen db at r x e f = sym e ∙ f
 
 -- ---- a line by the part of the database that starts after its names
 
-module _ (db : List ℕ) (at a n : ℕ) (p : NamesPassed db at (NamesTo a n)) (e : is_ignored (line_at db at) ≡ false) where
+module _ (db : List ℕ) (at a n : ℕ) (p : NamesPassed db at (Some (record { fields = a; names = n }))) (e : is_ignored (line_at db at) ≡ false) where
   line-fields : line_link (line_at db at) ≡ link_in (split (line_at (part db a) 0))
   line-fields = read_line (line_at db at) e ∙ ap link_in (sym (part_fields db at a n p))
 
-  pub part_linked : (name : ℕ) → FirstLinked (part db a) (At name) → Linked db (line_link (line_at db at)) (At (a + name))
+  pub part_linked : (name : ℕ) → FirstLinked (part db a) (Some name) → Linked db (line_link (line_at db at)) (Some (a + name))
   unfolding name_at line_at
   part_linked name h = line-fields ∙ h.0 ∙ ap (λ (l : List ℕ). link_to (first_name l)) (part_at db at a n p name)
 
-  pub part_none : FirstLinked (part db a) Nothing → Linked db (line_link (line_at db at)) Nothing
+  pub part_none : FirstLinked (part db a) None → Linked db (line_link (line_at db at)) None
   part_none h = line-fields ∙ h

@@ -1,5 +1,6 @@
 -- The lists as they grow, line by line.
 -- Assumes nothing.
+use Rattle.std.specs.Prelude.{Option, Some, None}
 use Prim.Native.Nat.{ℕ, ◌+◌, ◌≤◌, ◌<◌}
 use mathlib.Core.Path.{◌≡◌, refl, ◌∙◌, ap, sym}
 use mathlib.Core.Bool.{Bool, true, false, not}
@@ -7,6 +8,7 @@ use mathlib.Core.List.{List, [], ◌∷◌, ◌++◌, append_assoc, append-nil}
 use native.Mathlib.Omega.{arith}
 use native.Mathlib.Numerals.{add-one}
 use borrow.Author.Tests.{lt-ltb, le-ltb}
+use mir.Val.{bool_byte}
 use lib.ListN.{length, take, drop, set, length-set}
 use lib.Seq.{take-suc-set, drop-set-lt, drop-drop}
 use Rattle.spec.specs.Choice.{pick}
@@ -14,8 +16,6 @@ use Rattle.spec.specs.Lists.{holds}
 use Rattle.spec.specs.Lines.{Line, text_at, line_text, line_at, later_lines, lines_from, is_ignored}
 use Rattle.spec.specs.Fields.{Verdict, no_link, link_to}
 use Rattle.spec.specs.Repair.{lines_of, is_dropped, left, line_link, descriptions, too_many_lines}
-use Rattle.spec.specs.declared.Found.{Found}
-use Rattle.spec.specs.declared.Found.TheVariants.{At, Nothing}
 use Rattle.laws.proofs.Tests.{both_true, not_is_true}
 use Rattle.link_targets.specs.Targets.{name_at}
 use Rattle.link_list.specs.Listing.{start_of, link_starts, name_of, link_names, names_at, Linked, PutLink, Wanted}
@@ -126,9 +126,9 @@ module _ (db ats₀ names₀ ats names : List ℕ) (l : Line) (ls : List Line) (
       lt-ltb 4096 (descriptions (lines_of db)) m
 
   module _ (h : lines + c ≤ 4096) (ats' names' : List ℕ) (m : ℕ) where
-    pub passed : (r : Found) → Linked db (line_link l.text) r → PutLink r l.start ats names n ats' names' m
+    pub passed : (r : Option ℕ) → Linked db (line_link l.text) r → PutLink r l.start ats names n ats' names' m
         → Listing db ats₀ names₀ ats' names' ls (lines + c) m
-    passed Nothing v p =
+    passed None v p =
         let start = starts_step l ls ∙ ap (λ (v : Verdict). start_of l.start v (link_starts (left ls))) v ∙ start_none l.start _ in
         let name = names_step l ls ∙ ap (λ (v : Verdict). name_of v (link_names (left ls))) v ∙ name-none _ in
         record {
@@ -142,7 +142,7 @@ module _ (db ats₀ names₀ ats names : List ℕ) (l : Line) (ls : List Line) (
           starts = rw (p.0, p.2) (q.starts ∙ ap (λ (k : List ℕ). take n ats ++ k) start);
           texts = rw (p.1, p.2) (q.texts ∙ ap (λ (k : List (List ℕ)). names_at db (take n names) ++ k) name);
         }
-    passed (At a) v p =
+    passed (Some a) v p =
         let one : c ≡ 1 = e ∙ ap (λ (x : Bool). pick x 0 1) (linked-line l.text (name_at db a) v) in
         let less : n < length ats = omega (arith, q.small, q.ats_room) in
         let less' : n < length names = omega (arith, q.small, q.names-room) in
@@ -174,7 +174,7 @@ module _ (db ats₀ names₀ ats names : List ℕ) (l : Line) (ls : List Line) (
 
 -- a line at a place, as the code sees it
 pub passed-at : (db ats₀ names₀ ats names : List ℕ) (at lines n c : ℕ) → Listing db ats₀ names₀ ats names (lines_from at (text_at db at)) lines n
-    → c ≡ pick (is_ignored (line_text (text_at db at))) 0 1 → lines + c ≤ 4096 → (ats' names' : List ℕ) (m : ℕ) (r : Found)
+    → c ≡ pick (is_ignored (line_text (text_at db at))) 0 1 → lines + c ≤ 4096 → (ats' names' : List ℕ) (m : ℕ) (r : Option ℕ)
     → Linked db (line_link (line_at db at)) r → PutLink r at ats names n ats' names' m
     → Listing db ats₀ names₀ ats' names' (later_lines (text_at db at)) (lines + c) m
 unfolding line_at
@@ -210,14 +210,11 @@ listing_done db ats₀ names₀ ats names ls lines n q e =
         let m : descriptions (lines_of db) ≤ 4096 = omega (arith, q.counts, none, q.few) in
         unfold too_many_lines in le-ltb 4096 (descriptions (lines_of db)) m
 
--- ---- a link stored
+-- ---- a line counted
 
-pub put-none : (link : Found) (at : ℕ) (ats names : List ℕ) (n : ℕ) → link ≡ Nothing → PutLink link at ats names n ats names n
-put-none link at ats names n e = rw e (refl, refl, refl)
-
-pub put_one : (link : Found) (at : ℕ) (ats names : List ℕ) (n : ℕ) (ats' names' : List ℕ) (p : ℕ) → link ≡ At p → ats' ≡ set ats n at → names' ≡ set names n p
-    → PutLink link at ats names n ats' names' (n + 1)
-put_one link at ats names n ats' names' p e f g = rw e (f, g, refl)
+pub count_of : (c : ℕ) (r x : Bool) → c ≡ bool_byte (not r) → r ≡ x → c ≡ pick x 0 1
+count_of c r true e f = e ∙ ap (λ (b : Bool). bool_byte (not b)) f
+count_of c r false e f = e ∙ ap (λ (b : Bool). bool_byte (not b)) f
 
 pub at_most_one : (c : ℕ) (x : Bool) → c ≡ pick x 0 1 → c ≤ 1
 at_most_one c true e = omega arith

@@ -1,86 +1,73 @@
 // The links that the first two passes of the repair leave in a database: where their lines start, where their names stand, and which of
-// them the third pass removes.
+// them the third pass removes. Lists that are lent apart: `list_links` and `find_reasons` promise what becomes of each.
 #![tactic(auto)]
 
-ghost use Rattle.std.specs.Prelude.{◌≤◌, ◌≡◌, length, set};
-ghost use Rattle.spec.specs.Choice.{pick};
-ghost use Rattle.spec.specs.Lines.{text_at, line_text, line_at, is_ignored};
+ghost use Rattle.std.specs.Prelude.{◌≤◌, ◌≡◌, length};
+ghost use Rattle.spec.specs.Lines.{line_at};
 ghost use Rattle.spec.specs.Repair.{lines_of, left, line_link};
 ghost use Rattle.link_targets.specs.Targets.{Targets};
 ghost use Rattle.link_rings.specs.Rings.{Nexts};
 ghost use Rattle.link_list.specs.Listing.{link_starts, link_names, names_at, FirstLinked, Linked, PutLink, LinksListed, Reasons};
 
 use field_bounds::{AfterNames, after_names};
-use fields::{FieldRead, NextField, next_field};
-use lines::{Next, is_ignored, next_line};
+use fields::{Field, FieldRead, next_field};
+use lines::{is_ignored, next_line};
 use link_rings::judge_links;
 use link_targets::find_targets;
-use spec::{Found, MOST_LINES};
-
-// So many links; or the database has too many lines.
-#[derive(Clone, Copy)]
-pub enum Listed {
-    Links(usize),
-    TooMany,
-}
+use spec::MOST_LINES;
+use stores::put;
 
 // The first link of the fields of the first line of `s`, a part of the database that starts after a line's names: where its name stands.
-fn first_link(s: &[u8]) -> Found
+fn first_link(s: &[u8]) -> Option<usize>
     ensures { FirstLinked s.now result }
 {
     let mut i = 0;
     loop {
-        let NextField::Field(read, _, next) = next_field(s, i) else {
-            return Found::Nothing;
+        let Some(
+            Field {
+                read,
+                length: _,
+                next,
+            },
+        ) = next_field(s, i)
+        else {
+            return None;
         };
         match read {
-            FieldRead::Link(name) => return Found::At(name),
+            FieldRead::Link(name) => return Some(name),
             _ => i = next,
         }
     }
 }
 
 // The link of the line at a place, if it has one after the second pass: by the part of the database that starts after its names.
-fn line_link(db: &[u8], at: usize) -> Found
+fn line_link(db: &[u8], at: usize) -> Option<usize>
     ensures { Linked db.now (line_link (line_at db.now at)) result }
 {
     if is_ignored(db, at) {
-        return Found::Nothing;
+        return None;
     }
-    let AfterNames::At(fields, _) = after_names(db, at) else {
-        return Found::Nothing;
+    let Some(AfterNames { fields, names: _ }) = after_names(db, at) else {
+        return None;
     };
     match first_link(&db[fields..]) {
-        Found::At(name) => Found::At(fields + name),
-        Found::Nothing => Found::Nothing,
-    }
-}
-
-// One for a line that is not ignored.
-fn counted(db: &[u8], at: usize) -> usize
-    ensures { result ≡ pick (is_ignored (line_text (text_at db.now at))) 0 1 }
-{
-    if is_ignored(db, at) {
-        return 0;
-    }
-    1
-}
-
-// A store past the end is no store.
-fn put(list: &mut [usize], i: usize, v: usize)
-    ensures { list.new ≡ set list.old i v }
-{
-    if i < list.len() {
-        list[i] = v;
+        Some(name) => Some(fields + name),
+        None => None,
     }
 }
 
 // Stores a link of the line at a place, and answers how many there are then.
-fn put_link(link: Found, at: usize, ats: &mut [usize], names: &mut [usize], n: usize) -> usize
+fn put_link(
+    link: Option<usize>,
+    at: usize,
+    ats: &mut [usize],
+    names: &mut [usize],
+    n: usize,
+) -> usize
     requires { n ≤ 4096 }
     ensures { PutLink link at ats.old names.old n ats.new names.new result }
 {
-    let Found::At(name) = link else {
+    let Some(name) = link else {
         return n;
     };
     put(ats, n, at);
@@ -88,8 +75,8 @@ fn put_link(link: Found, at: usize, ats: &mut [usize], names: &mut [usize], n: u
     n + 1
 }
 
-// Lists the links of a database.
-pub fn list_links(db: &[u8], ats: &mut [usize], names: &mut [usize]) -> Listed
+// Lists the links of a database, and answers how many there are; nothing if it has too many lines.
+pub fn list_links(db: &[u8], ats: &mut [usize], names: &mut [usize]) -> Option<usize>
     requires ats_len { length ats.old ≡ 4096 }
     requires names_len { length names.old ≡ 4096 }
     ensures { LinksListed db.now ats.old names.old ats.new names.new result }
@@ -98,19 +85,20 @@ pub fn list_links(db: &[u8], ats: &mut [usize], names: &mut [usize]) -> Listed
     let mut lines = 0;
     let mut n = 0;
     loop {
-        lines += counted(db, at);
+        lines += usize::from(!is_ignored(db, at));
         if lines > MOST_LINES {
-            return Listed::TooMany;
+            return None;
         }
         n = put_link(line_link(db, at), at, ats, names, n);
         match next_line(db, at) {
-            Next::To(next) => at = next,
-            Next::Last => return Listed::Links(n),
+            Some(next) => at = next,
+            None => return Some(n),
         }
     }
 }
 
-// Finds the reasons of the links that are listed, by their targets. `names` is lent on as room to work in once the targets are found.
+// Finds the reasons of the links that are listed, by their targets: by number, as `reason_at` and the records have them, and 0 where a link
+// stays. `names` is lent on as room to work in once the targets are found.
 pub fn find_reasons(
     db: &[u8],
     ats: &[usize],

@@ -2,49 +2,39 @@
 -- Assumes nothing.
 use Prim.Native.Nat.{ℕ, zero, suc, ◌+◌, ◌-◌, ◌≤◌, ◌<◌}
 use mathlib.Core.Path.{◌≡◌, refl, ◌∙◌, ap, sym}
-use mathlib.Core.Bool.{Bool, true, false}
+use mathlib.Core.Bool.{Bool, true, false, not}
 use mathlib.Core.List.{List, [], ◌∷◌}
 use native.Mathlib.Omega.{arith}
-use native.Mathlib.Numerals.{add-one}
 use borrow.Author.Tests.{eqb-true, eqb-false, eq-eqb, ne_eqb}
 use lib.Dec.{eqb}
-use lib.ListN.{length, drop, get_or, set, length-drop, drop_of_length-le}
-use lib.Seq.{drop-cons, get_or-drop, get_or-set_same, get_or-set_other}
+use lib.ListN.{length, drop, get_or, set, length-drop}
+use lib.Seq.{get_or-drop, get_or-set_same, get_or-set_other}
+use Rattle.std.specs.Prelude.{cond, unwrap_or, None}
+use Rattle.std.specs.List.{position, position_or_len}
+use Rattle.std.proofs.lemmas.Grind.{common_steps}
+use Rattle.std.proofs.lemmas.List.Sums.{prefix_len-le-length}
+use Rattle.std.proofs.lemmas.List.Recursion.{is_position_or_len}
 use Rattle.spec.specs.Choice.{pick}
 use Rattle.spec.specs.Repair.{Link, leads, link_reason}
-use Rattle.spec.specs.declared.Found.TheVariants.{Nothing}
 use Rattle.link_rings.specs.Rings.{found_of, links_of, reasons_of, Starts, index_of, Nexts}
 
 -- ---- where a number stands
 
-unfoldable pub onward : List ℕ → ℕ → List ℕ
-onward l i = drop i l
+pub index_is : (l : List ℕ) (p : ℕ) → index_of l p ≡ position_or_len (λ a. eqb a p) l
+index_is l p = is_position_or_len (λ x. index_of x p) (λ a. eqb a p) empty more l
+  where
+    empty : index_of [] p ≡ 0
+    empty = unfold index_of in refl
 
-next_of : (l : List ℕ) (i : ℕ) → i < length l → drop i l ≡ get_or l i 0 ∷ drop (i + 1) l
-next_of l i h = rw (add-one, drop-cons l i 0)
+    more : (a : ℕ) (x : List ℕ) → index_of (a ∷ x) p ≡ cond (eqb a p) 0 (1 + index_of x p)
+    more a x = unfold index_of in go (eqb a p) (omega arith)
+      where
+        go : (t : Bool) → index_of x p + 1 ≡ 1 + index_of x p → pick t 0 (index_of x p + 1) ≡ cond t 0 (1 + index_of x p)
+        go true e = refl
+        go false e = e
 
-pub index_whole : (l : List ℕ) (p : ℕ) → index_of l p ≡ 0 + index_of (onward l 0) p
-unfolding onward
-index_whole l p = omega arith
-
-module _ (l : List ℕ) (p i : ℕ) where
-  pub index_here : index_of l p ≡ i + index_of (onward l i) p → i < length l → get_or l i 0 ≡ p → i ≡ index_of l p
-  unfolding onward index_of
-  index_here e h f =
-      let z : index_of (drop i l) p ≡ 0 = rw (next_of l i h, eq-eqb (get_or l i 0) p f) in
-      omega arith
-
-  pub index_on : index_of l p ≡ i + index_of (onward l i) p → i < length l → (get_or l i 0 ≡ p → ⊥) → index_of l p ≡ i + 1 + index_of (onward l (i + 1)) p
-  unfolding onward index_of
-  index_on e h n =
-      let z : index_of (drop i l) p ≡ index_of (drop (i + 1) l) p + 1 = rw (next_of l i h, ne_eqb (get_or l i 0) p n) in
-      omega arith
-
-  pub index_none : index_of l p ≡ i + index_of (onward l i) p → length l ≤ i → i ≡ index_of l p
-  unfolding onward index_of
-  index_none e h =
-      let z : index_of (drop i l) p ≡ 0 = rw (drop_of_length-le l h) in
-      omega arith
+pub index_or : (l : List ℕ) (p : ℕ) → unwrap_or (position (λ a. eqb a p) l) (length l) ≡ index_of l p
+index_or l p = rw index_is (grind (arith, common_steps, prefix_len-le-length (λ a. not (eqb a p)) l))
 
 pub index_found : (l : List ℕ) (p : ℕ) → index_of l p < length l → get_or l (index_of l p) 0 ≡ p
 unfolding index_of
@@ -71,10 +61,6 @@ index_missing (a ∷ l) p h i g e = go (eqb a p) refl h i g e (index_missing l p
 
 -- ---- the next links, one after the other
 
-pub nexts_none : (ats tos nexts : List ℕ) → Nexts ats tos nexts 0
-unfolding Nexts
-nexts_none ats tos nexts i h = absurd (omega arith)
-
 pub nexts_on : (ats tos nexts : List ℕ) (k v : ℕ) → Nexts ats tos nexts k → k < length nexts → v ≡ index_of ats (get_or tos k 0)
     → Nexts ats tos (set nexts k v) (k + 1)
 unfolding Nexts
@@ -89,24 +75,21 @@ nexts_on ats tos nexts k v n h e i g = go (eqb i k) refl
         let m : i < k = omega arith in
         get_or-set_other nexts k i v 0 d ∙ n i m
 
-pub nexts_reached : (ats tos nexts : List ℕ) (k n : ℕ) → Nexts ats tos nexts k → n ≤ k → Nexts ats tos nexts n
-unfolding Nexts
-nexts_reached ats tos nexts k n t h i g = t i (omega arith)
-
 pub next_is : (ats tos nexts : List ℕ) (n i : ℕ) → Nexts ats tos nexts n → i < n → get_or nexts i 0 ≡ index_of ats (get_or tos i 0)
 unfolding Nexts
 next_is ats tos nexts n i t h = t i h
 
 -- ---- where the links lead
 
-leads-none : (ats tos : List ℕ) (p : ℕ) → ((i : ℕ) → i < length ats → get_or ats i 0 ≡ p → ⊥) → leads (links_of ats tos) p ≡ Nothing
+leads-none : (ats tos : List ℕ) (p : ℕ) → ((i : ℕ) → i < length ats → get_or ats i 0 ≡ p → ⊥) → leads (links_of ats tos) p ≡ None
 unfolding leads links_of
 leads-none [] tos p n = refl
 leads-none (a ∷ ats) [] p n = refl
 leads-none (a ∷ ats) (t ∷ tos) p n = rw (ne_eqb a p (n 0 (omega arith))) (leads-none ats tos p (λ i h e. n (suc i) (omega arith) e))
 
 leads_here : (ats tos : List ℕ) (i : ℕ) → length tos ≡ length ats → i < length ats
-    → ((j k : ℕ) → j < length ats → k < length ats → get_or ats j 0 ≡ get_or ats k 0 → j ≡ k) → leads (links_of ats tos) (get_or ats i 0) ≡ found_of (get_or tos i 0)
+    → ((j k : ℕ) → j < length ats → k < length ats → get_or ats j 0 ≡ get_or ats k 0 → j ≡ k)
+    → leads (links_of ats tos) (get_or ats i 0) ≡ found_of (get_or tos i 0)
 unfolding leads links_of
 leads_here [] tos i e h d = absurd (omega arith)
 leads_here (a ∷ ats) [] i e h d = absurd (omega arith)
@@ -130,11 +113,13 @@ module _ (ats tos : List ℕ) (k : ℕ) (s : Starts ats) (e : length tos ≡ len
   inside : (j : ℕ) → j < length (drop k ats) → k + j < length ats
   inside j h = let l = length-drop k ats in omega (arith, l)
 
-  pub late_none : (p : ℕ) → ((i : ℕ) → i < length ats → get_or ats i 0 ≡ p → ⊥) → leads (late ats tos k) p ≡ Nothing
+  pub late_none : (p : ℕ) → ((i : ℕ) → i < length ats → get_or ats i 0 ≡ p → ⊥) → leads (late ats tos k) p ≡ None
   late_none p n = leads-none (drop k ats) (drop k tos) p (λ j h f. n (k + j) (inside j h) (sym (get_or-drop k ats j 0) ∙ f))
 
-  pub late_before : (i : ℕ) → i < length ats → i < k → leads (late ats tos k) (get_or ats i 0) ≡ Nothing
-  late_before i h l = leads-none (drop k ats) (drop k tos) (get_or ats i 0) (λ j g f. other j (s.apart (k + j) i (inside j g) h (sym (get_or-drop k ats j 0) ∙ f)))
+  pub late_before : (i : ℕ) → i < length ats → i < k → leads (late ats tos k) (get_or ats i 0) ≡ None
+  late_before i h l =
+      leads-none (drop k ats) (drop k tos) (get_or ats i 0)
+      (λ j g f. other j (s.apart (k + j) i (inside j g) h (sym (get_or-drop k ats j 0) ∙ f)))
     where
       other : (j : ℕ) → k + j ≡ i → ⊥
       other j f = omega arith

@@ -1,13 +1,11 @@
 -- Which links are removed: the links as two lists of numbers, and the reason of each by the links from its line on.
-use Rattle.std.specs.Prelude.{ℕ, zero, suc, ◌+◌, ◌≤◌, ◌<◌, ◌≡◌, Bool, false, List, [], ◌∷◌, eqb, ltb, length, get_or}
+use Rattle.std.specs.Prelude.{ℕ, zero, suc, ◌+◌, ◌≤◌, ◌<◌, ◌≡◌, Bool, false, List, [], ◌∷◌, eqb, ltb, length, get_or, Option, Some, None}
 use Rattle.spec.specs.Choice.{pick, both, either}
 use Rattle.spec.specs.Repair.{Link, link_reason}
-use Rattle.spec.specs.declared.Found.{Found}
-use Rattle.spec.specs.declared.Found.TheVariants.{At, Nothing}
 
 -- A number as a place: 1,048,577 is nowhere.
-unfoldable pub found_of : ℕ → Found
-found_of v = pick (eqb v 1048577) Nothing (At v)
+unfoldable pub found_of : ℕ → Option ℕ
+found_of v = pick (eqb v 1048577) None (Some v)
 
 -- The links, by where their lines start and where they lead.
 unfoldable pub links_of : List ℕ → List ℕ → List Link

@@ -1,67 +1,56 @@
 // The third pass of the repair: which links are removed, and why. A link is a number: its line starts at `ats[k]`, and it leads to the
-// line that starts at `tos[k]`, or to NOWHERE.
+// line that starts at `tos[k]`, or to NOWHERE. Lists of numbers, lent apart, and no structs or Options: `judge_links` promises its answer,
+// and its room to work in, over these lists.
 #![tactic(auto)]
 
-ghost use Rattle.std.specs.Prelude.{◌-◌, ◌<◌, ◌≡◌, length, drop, get_or};
+ghost use Rattle.std.specs.Prelude.{◌-◌, ◌<◌, ◌≡◌, length, drop, eqb, get_or, position};
 ghost use Rattle.spec.specs.Repair.{link_reason};
-ghost use Rattle.link_rings.specs.Rings.{found_of, links_of, reasons_of, Starts, index_of, Nexts, returns_to};
+ghost use Rattle.link_rings.specs.Rings.{found_of, links_of, reasons_of, Starts, Nexts, returns_to};
 
 use spec::MOST_BYTES;
 
 // Where a link leads whose name is not found: past every database.
 const NOWHERE: usize = MOST_BYTES + 1;
 
-// The reasons for which a link is removed. 0: it stays.
+// The reasons for which a link is removed. 0: it stays. By number: `reasons_of` and the records of the repair have these numbers.
 const LOST: u8 = 4;
 
 const CYCLIC: u8 = 5;
 
-// The link of the line that starts at a place, or as many as there are.
-fn entry_of(ats: &[usize], p: usize) -> usize
-    ensures { result ≡ index_of ats.now p }
+// The link of the line that starts at a place.
+fn entry_of(ats: &[usize], p: usize) -> Option<usize>
+    ensures { result ≡ position (λ a. eqb a p) ats.now }
 {
-    let mut i = 0;
-    while i < ats.len() {
-        if ats[i] == p {
-            return i;
-        }
-        i += 1;
-    }
-    i
+    ats.iter().position(|a| *a == p)
 }
 
-// Stores for each link the link of the line that it leads to.
+// Stores for each link the link of the line that it leads to, or as many as there are.
+#[tactic(auto, unfolding(crate::specs::Rings::Nexts))]
 fn list_nexts(ats: &[usize], tos: &[usize], nexts: &mut [usize])
     requires tos_len { length tos.now ≡ length ats.now }
     requires nexts_len { length nexts.old ≡ length ats.now }
     ensures { Nexts ats.now tos.now nexts.new (length ats.now) }
 {
-    let mut i = 0;
-    while i < ats.len() {
-        nexts[i] = entry_of(ats, tos[i]);
-        i += 1;
+    for (i, next) in nexts.iter_mut().enumerate() {
+        *next = entry_of(ats, tos[i]).unwrap_or(ats.len());
     }
 }
 
 // Whether the links from the link k on come back to it. A line before it ends the search: its link is no part of a ring any more.
+#[tactic(auto, using(crate::proofs::Walks::walked))]
 fn comes_back(nexts: &[usize], k: usize) -> bool
     requires { k < length nexts.now }
     ensures { result ≡ returns_to nexts.now k (length nexts.now - k) (get_or nexts.now k 0) }
 {
     let mut at = nexts[k];
-    let mut left = nexts.len() - k;
-    while left > 0 {
+    for _ in k..nexts.len() {
         if at == k {
             return true;
         }
-        if at < k {
-            return false;
-        }
-        if at >= nexts.len() {
+        if at < k || at >= nexts.len() {
             return false;
         }
         at = nexts[at];
-        left -= 1;
     }
     false
 }
@@ -77,12 +66,12 @@ fn judge_link(ats: &[usize], tos: &[usize], nexts: &[usize], k: usize) -> u8
         (get_or ats.now k 0) (found_of (get_or tos.now k 0)) }
 {
     if tos[k] == NOWHERE {
-        return LOST;
+        LOST
+    } else if comes_back(nexts, k) {
+        CYCLIC
+    } else {
+        0
     }
-    if comes_back(nexts, k) {
-        return CYCLIC;
-    }
-    0
 }
 
 // Judges all links. `nexts` is room to work in: afterwards it has for each link the link of the line that it leads to.
@@ -95,9 +84,7 @@ pub fn judge_links(ats: &[usize], tos: &[usize], nexts: &mut [usize], reasons: &
         × Nexts ats.now tos.now nexts.new (length ats.now) }
 {
     list_nexts(ats, tos, nexts);
-    let mut k = 0;
-    while k < ats.len() {
-        reasons[k] = judge_link(ats, tos, nexts, k);
-        k += 1;
+    for (k, reason) in reasons.iter_mut().enumerate() {
+        *reason = judge_link(ats, tos, nexts, k);
     }
 }

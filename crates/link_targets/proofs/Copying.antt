@@ -1,12 +1,12 @@
 -- A name copied to a buffer byte by byte: what is stored, and what is left.
 -- Assumes nothing.
 use Prim.Native.Nat.{ℕ, suc, ◌+◌, ◌≤◌, ◌<◌}
-use mathlib.Core.Path.{◌≡◌, refl, ◌∙◌, ap, sym}
+use mathlib.Core.Path.{◌≡◌, ◌∙◌, ap, sym}
 use mathlib.Core.List.{List, [], ◌∷◌}
 use native.Mathlib.Omega.{arith}
 use native.Mathlib.Nat.{add-zero}
 use mathlib.Core.Logic.{◌⊎◌}
-use lib.ListN.{length, take, drop, set, length-set}
+use lib.ListN.{length, take, drop, set}
 use lib.Seq.{sets, sets-eq, length-sets, take_at}
 use Rattle.spec.specs.Lines.{end, byte, text_at, line_text, first_name}
 use Rattle.spec.specs.Lists.{upto}
@@ -18,14 +18,12 @@ pub record Copying (s : List ℕ) (at : ℕ) (out₀ : List ℕ) (to : ℕ) (out
   pub few : k ≤ i
   pub count : length (name_at s at) ≡ k + length (name_at s i)
   pub bytes : sets out₀ to (name_at s at) ≡ sets out (to + k) (name_at s i)
-  pub kept : length out ≡ length out₀
 
 pub copying_none : (s : List ℕ) (at : ℕ) (out : List ℕ) (to : ℕ) → Copying s at out to out at 0
 copying_none s at out to = record {
   few = omega arith;
   count = omega arith;
   bytes = rw add-zero;
-  kept = refl;
 }
 
 module _ (s : List ℕ) (at : ℕ) (out₀ : List ℕ) (to : ℕ) (out : List ℕ) (i k : ℕ) (q : Copying s at out₀ to out i k) where
@@ -38,7 +36,6 @@ module _ (s : List ℕ) (at : ℕ) (out₀ : List ℕ) (to : ℕ) (out : List �
         bytes =
             q.bytes ∙ ap (sets out (to + k)) e ∙ ap (λ (j : ℕ). sets (set out (to + k) b) j (name_at s n)) next
             ∙ ap (λ (l : List ℕ). sets l (to + (k + 1)) (name_at s n)) (sym f);
-        kept = ap length f ∙ simp length-set q.kept;
       }
 
   pub copying_done : name_at s i ≡ [] → (k ≡ length (name_at s at)) × (out ≡ sets out₀ to (name_at s at))

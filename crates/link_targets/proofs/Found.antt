@@ -1,21 +1,21 @@
 -- The first line of a number is what the search finds among the lines that are left, for the name that has the number.
 -- Assumes nothing.
+use Rattle.std.specs.Prelude.{Some}
 use Prim.Native.Nat.{ℕ, zero, suc, ◌+◌, ◌-◌, ◌≤◌, ◌<◌, ◌*◌}
 use mathlib.Core.Path.{◌≡◌, refl, ◌∙◌, ap, sym}
 use mathlib.Core.Bool.{Bool, true, false}
 use mathlib.Core.List.{List, [], ◌∷◌}
 use native.Mathlib.Omega.{arith}
 use borrow.Author.Tests.{eqb-true, eqb-false, eq-eqb, ne_eqb}
-use lib.Dec.{eqb}
+use lib.Dec.{eqb, ltb}
 use lib.ListN.{length, take, get_or, set, replicate, length-replicate}
 use lib.Seq.{get_or-set_same, get_or-set_other}
-use Rattle.name_table.specs.Table.{Table, AtMost, text_of, slot_of}
-use Rattle.name_table.proofs.Laws.{slot_alone, slot_single}
-use Rattle.spec.specs.Choice.{pick}
+use Rattle.name_table.specs.Table.{Table, AtMost, text_of, place_in, slot_of}
+use Rattle.name_table.proofs.Laws.{in_order, slot_alone, slot_single, slot_long}
+use Rattle.spec.specs.Choice.{pick, both}
 use Rattle.spec.specs.Lists.{holds, same, among}
 use Rattle.spec.specs.Lines.{Line, is_ignored, find}
 use Rattle.spec.specs.Repair.{is_dropped, left, lines_of}
-use Rattle.spec.specs.declared.Found.TheVariants.{At}
 use Rattle.laws.proofs.Tests.{clash}
 use Rattle.laws.proofs.WholeLines.{same_equal, equal_same}
 use Rattle.link_targets.specs.Targets.{name_at, place_of, any_numbered, line_names, numbered, first_numbered, Unsettled, FirstLines, Targets, ShortNames}
@@ -39,7 +39,7 @@ module _ (number : List ℕ → ℕ) (name : List ℕ) (j : ℕ) (has : number n
   first_found (l ∷ ls) = go (is_ignored l.text) refl (holds 58 l.text) refl (first_found ls)
     where
       go : (x : Bool) → is_ignored l.text ≡ x → (y : Bool) → holds 58 l.text ≡ y → first_numbered number j ls ≡ find name (left ls)
-          → pick (numbered number l.text j) (At l.start) (first_numbered number j ls) ≡ find name (pick (is_dropped l.text) (left ls) (l ∷ left ls))
+          → pick (numbered number l.text j) (Some l.start) (first_numbered number j ls) ≡ find name (pick (is_dropped l.text) (left ls) (l ∷ left ls))
       go true x y e ih = rw (x, x) ih
       go false x true y ih = rw (x, y, x, among-number (line_names l.text), ih)
       go false x false y ih = rw (x, y) ih
@@ -56,6 +56,21 @@ pub table_found : (db bytes lens order : List ℕ) (count : ℕ) (name firsts : 
 table_found db bytes lens order count name firsts j f e s h =
     let m : slot_of bytes lens order count name < length lens = omega (arith, s) in
     target_found (slot_of bytes lens order count) name j (sym s) (λ n g. slot_alone bytes lens order count name m n (g ∙ s)) db firsts f h
+
+-- a text has the number of a name, or that past all names
+slot_most : (bytes lens order : List ℕ) (count : ℕ) (name : List ℕ) → Table bytes lens order → slot_of bytes lens order count name ≤ length lens
+unfolding slot_of
+slot_most bytes lens order count name t =
+    go (both (ltb (place_in bytes lens order count name) count) (same name (text_of bytes lens (get_or order (place_in bytes lens order count name) 0))))
+  where
+    go : (x : Bool) → pick x (get_or order (place_in bytes lens order count name) 0) (length lens) ≤ length lens
+    go true = let l = in_order bytes lens order (place_in bytes lens order count name) t in omega arith
+    go false = omega arith
+
+pub slot_past : (bytes lens order : List ℕ) (count : ℕ) (name : List ℕ) → Table bytes lens order → 64 < length name
+    → length lens ≡ slot_of bytes lens order count name
+slot_past bytes lens order count name t h =
+    omega (arith, slot_long bytes lens order count name t.short h, slot_most bytes lens order count name t)
 
 -- ---- by a table of one name
 
@@ -120,7 +135,7 @@ short-name db names k s h = s k h
 
 -- ---- the table as it is at first, and the numbers
 
-at-most_zeros : (most n : ℕ) → AtMost most (replicate n 0)
+pub at-most_zeros : (most n : ℕ) → AtMost most (replicate n 0)
 unfolding AtMost
 at-most_zeros most zero i = omega arith
 at-most_zeros most (suc n) zero = omega arith

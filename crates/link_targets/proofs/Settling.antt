@@ -1,5 +1,6 @@
 -- Numbers settled one after the other: by a store, by a name, by the names of a line, by all lines.
 -- Assumes nothing.
+use Rattle.std.specs.Prelude.{Option, Some}
 use Prim.Native.Nat.{ℕ, ◌≤◌, ◌<◌}
 use mathlib.Core.Path.{◌≡◌, refl, ◌∙◌, sym}
 use mathlib.Core.Bool.{Bool, true, false}
@@ -13,8 +14,6 @@ use Rattle.spec.specs.Choice.{pick, both, either}
 use Rattle.spec.specs.Lists.{holds}
 use Rattle.spec.specs.Lines.{text_at, line_text, line_at, later_lines, lines_from, is_ignored, first_name, later_names}
 use Rattle.spec.specs.Repair.{lines_of}
-use Rattle.spec.specs.declared.Found.{Found}
-use Rattle.spec.specs.declared.Found.TheVariants.{At}
 use Rattle.laws.proofs.Tests.{both_false}
 use Rattle.link_targets.specs.Targets.{name_at, place_of, settled, or_else, any_numbered, line_names, numbered, first_numbered, Settles, Unsettled, FirstLines}
 
@@ -34,13 +33,13 @@ settled_twice at v x y = go x y (eqb v 1048577) refl (eqb at 1048577) refl
     go true false false s r t = rw s
     go false y s e r t = refl
 
-settled_else : (at v : ℕ) (hit : Bool) (rest : Found) → (at ≡ 1048577 → ⊥) → or_else (settled at hit v) rest ≡ or_else v (pick hit (At at) rest)
+settled_else : (at v : ℕ) (hit : Bool) (rest : Option ℕ) → (at ≡ 1048577 → ⊥) → or_else (settled at hit v) rest ≡ or_else v (pick hit (Some at) rest)
 unfolding settled or_else place_of
 settled_else at v hit rest n = go hit (eqb v 1048577) refl
   where
     go : (x s : Bool) → eqb v 1048577 ≡ s
         → pick (eqb (pick (both x (eqb v 1048577)) at v) 1048577) (place_of rest) (pick (both x (eqb v 1048577)) at v) ≡ pick (eqb v 1048577)
-        (place_of (pick x (At at) rest)) v
+        (place_of (pick x (Some at) rest)) v
     go true true s = rw (s, ne_eqb at 1048577 n)
     go true false s = rw (s, s)
     go false s e = refl
@@ -177,8 +176,9 @@ module _ (db : List ℕ) (number : List ℕ → ℕ) where
     passed j h =
         let m : j < length firsts = omega arith in
         let n : at ≡ 1048577 → ⊥ = λ e. omega arith in
-        inv j m ∙ sym
-        (rw (s j) (settled_else at (get_or firsts j 0) (numbered number (line_text (text_at db at)) j) (first_numbered number j (later_lines (text_at db at))) n))
+        let hit = numbered number (line_text (text_at db at)) j in
+        let rest = first_numbered number j (later_lines (text_at db at)) in
+        inv j m ∙ sym (rw (s j) (settled_else at (get_or firsts j 0) hit rest n))
 
     pub lines_on : (n : ℕ) → later_lines (text_at db at) ≡ lines_from n (text_at db n) → Lines n new
     unfolding Lines

@@ -1,20 +1,18 @@
 -- Where links lead: for each wanted name the first line that has it, of those that are left.
-use Rattle.std.specs.Prelude.{ℕ, ◌≤◌, ◌<◌, ◌≡◌, Bool, false, not, List, [], ◌∷◌, eqb, length, get_or}
+use Rattle.std.specs.Prelude.{ℕ, ◌≤◌, ◌<◌, ◌≡◌, Bool, false, not, List, [], ◌∷◌, eqb, length, get_or, Option, Some, None}
 use Rattle.spec.specs.Choice.{pick, both, either}
 use Rattle.spec.specs.Lists.{holds}
 use Rattle.spec.specs.Lines.{Line, text_at, line_text, is_ignored, first_name, later_names, find}
 use Rattle.spec.specs.Repair.{left, lines_of}
-use Rattle.spec.specs.declared.Found.{Found}
-use Rattle.spec.specs.declared.Found.TheVariants.{At, Nothing}
 
 -- The name at a place: up to a bar, a colon, or the line's end.
 unfoldable pub name_at : List ℕ → ℕ → List ℕ
 name_at db at = first_name (line_text (text_at db at))
 
 -- A place as a number: nowhere is past every database.
-unfoldable pub place_of : Found → ℕ
-place_of (At p) = p
-place_of Nothing = 1048577
+unfoldable pub place_of : Option ℕ → ℕ
+place_of (Some p) = p
+place_of None = 1048577
 
 -- THE TARGETS: the first `count` numbers of `tos` are where the names at the first `count` places of `names` are found, among the lines
 -- that are left.
@@ -31,7 +29,7 @@ ShortNames db names = (k : ℕ) → k < length names → length (name_at db (get
 unfoldable pub settled : ℕ → Bool → ℕ → ℕ
 settled at hit v = pick (both hit (eqb v 1048577)) at v
 
-unfoldable pub or_else : ℕ → Found → ℕ
+unfoldable pub or_else : ℕ → Option ℕ → ℕ
 or_else v found = pick (eqb v 1048577) (place_of found) v
 
 -- Whether one of the names has the number j.
@@ -46,9 +44,9 @@ line_names l = first_name l ∷ later_names l
 unfoldable pub numbered : (List ℕ → ℕ) → List ℕ → ℕ → Bool
 numbered number l j = both (not (is_ignored l)) (both (holds 58 l) (any_numbered number (line_names l) j))
 
-unfoldable pub first_numbered : (List ℕ → ℕ) → ℕ → List Line → Found
-first_numbered number j [] = Nothing
-first_numbered number j (l ∷ ls) = pick (numbered number l.text j) (At l.start) (first_numbered number j ls)
+unfoldable pub first_numbered : (List ℕ → ℕ) → ℕ → List Line → Option ℕ
+first_numbered number j [] = None
+first_numbered number j (l ∷ ls) = pick (numbered number l.text j) (Some l.start) (first_numbered number j ls)
 
 -- What a part of the pass makes of each number.
 unfoldable pub Settles : ℕ → (ℕ → Bool) → List ℕ → List ℕ → Type 0

@@ -2,26 +2,38 @@
 // that are left, for some hundred wanted names at a time.
 #![tactic(auto)]
 
-ghost use Rattle.std.specs.Prelude.{◌+◌, ◌≤◌, ◌<◌, ◌≡◌, eqb, length};
+ghost use Rattle.std.specs.Prelude.{◌≤◌, ◌<◌, ◌≡◌, eqb, length};
 ghost use Rattle.std.proofs.lemmas.List.Edits.{sets};
 ghost use Rattle.spec.specs.Lines.{line_at, find};
 ghost use Rattle.spec.specs.Repair.{left, lines_of};
 ghost use Rattle.name_table.specs.Table.{Table, AtMost, slot_of};
+ghost use Rattle.link_targets.specs.Props.{table-prop};
 ghost use Rattle.link_targets.specs.Targets.{name_at, place_of, Targets, ShortNames, any_numbered, line_names, numbered, Settles, Unsettled, FirstLines};
 
 use field_bounds::{AfterNames, after_names};
-use lines::{Next, Step, is_ignored, next_line, next_name, peek};
+use lines::{is_ignored, next_line, next_name, peek};
 use name_table::{NAME_BYTES, list_names, slot_of};
 use spec::MOST_BYTES;
 use stores::put_after;
 
-// The place of a line that is not found: past every database.
+// The place of a line that is not found: past every database. By number: `Targets` and `FirstLines` have it so.
 const NOWHERE: usize = MOST_BYTES + 1;
 
 // So many names are looked for in one pass, and the room that they have in the table.
 const BATCH: usize = 512;
 
 const TABLE_BYTES: usize = BATCH * NAME_BYTES;
+
+// The names that are looked for in a pass: a table, and how many of them its list has.
+#[derive(Clone, Copy)]
+struct Names<'a> {
+    bytes: &'a [u8],
+    lens: &'a [usize],
+    order: &'a [usize],
+    count: usize,
+    ghost table: { Table bytes.now lens.now order.now } by { table-prop bytes.now lens.now order.now },
+    ghost few: { count ≤ length order.now },
+}
 
 // Copies the name at a place to `out` from `to` on, and tells its length. What has no room is not stored.
 fn copy_name(db: &[u8], at: usize, out: &mut [u8], to: usize) -> usize
@@ -31,7 +43,7 @@ fn copy_name(db: &[u8], at: usize, out: &mut [u8], to: usize) -> usize
     let mut k = 0;
     loop {
         match peek(db, i) {
-            Step::Byte(b, n) => match b {
+            Some((b, n)) => match b {
                 b'\n' | b':' | b'|' => return k,
                 _ => {
                     put_after(out, to, k, b);
@@ -39,7 +51,7 @@ fn copy_name(db: &[u8], at: usize, out: &mut [u8], to: usize) -> usize
                     i = n;
                 }
             },
-            Step::End => return k,
+            None => return k,
         }
     }
 }
@@ -48,111 +60,77 @@ fn copy_name(db: &[u8], at: usize, out: &mut [u8], to: usize) -> usize
 fn settle(firsts: &mut [usize], j: usize, at: usize)
     ensures { Settles at (eqb j) firsts.old firsts.new }
 {
-    if j < firsts.len() {
-        if firsts[j] == NOWHERE {
-            firsts[j] = at;
-        }
+    if j < firsts.len() && firsts[j] == NOWHERE {
+        firsts[j] = at;
     }
 }
 
-// Settles the name at p, of the line at `at`.
-fn settle_name(
-    db: &[u8],
-    at: usize,
-    p: usize,
-    bytes: &[u8],
-    lens: &[usize],
-    order: &[usize],
-    count: usize,
-    firsts: &mut [usize],
-)
-    requires table { Table bytes.now lens.now order.now }
-    requires count_in_bounds { count ≤ length order.now }
-    requires firsts_len { length firsts.old ≡ length lens.now }
-    ensures { Settles at (eqb (slot_of bytes.now lens.now order.now count (name_at db.now p)))
-        firsts.old firsts.new }
+// The number of the name at a place, or a number past all names.
+fn number_of(db: &[u8], at: usize, wanted: &Names<'_>) -> usize
+    ensures { result ≡ slot_of wanted.now.bytes.now wanted.now.lens.now wanted.now.order.now wanted.now.count
+        (name_at db.now at) }
 {
     let mut name = [0u8; NAME_BYTES];
-    let n = copy_name(db, p, &mut name, 0);
+    let n = copy_name(db, at, &mut name, 0);
     if n > NAME_BYTES {
-        return;
+        return wanted.lens.len();
     }
-    settle(firsts, slot_of(bytes, lens, order, count, &name[..n]), at);
+    slot_of(
+        wanted.bytes,
+        wanted.lens,
+        wanted.order,
+        wanted.count,
+        &name[..n],
+    )
 }
 
 // Settles all names of the line at a place.
-fn settle_names(
-    db: &[u8],
-    at: usize,
-    bytes: &[u8],
-    lens: &[usize],
-    order: &[usize],
-    count: usize,
-    firsts: &mut [usize],
-)
-    requires table { Table bytes.now lens.now order.now }
-    requires count_in_bounds { count ≤ length order.now }
-    requires firsts_len { length firsts.old ≡ length lens.now }
-    ensures { Settles at (any_numbered (slot_of bytes.now lens.now order.now count) (line_names (line_at db.now at)))
-        firsts.old firsts.new }
+fn settle_names(db: &[u8], at: usize, wanted: &Names<'_>, firsts: &mut [usize])
+    ensures { Settles at (any_numbered (slot_of wanted.now.bytes.now wanted.now.lens.now wanted.now.order.now wanted.now.count)
+        (line_names (line_at db.now at))) firsts.old firsts.new }
 {
     let mut p = at;
     loop {
-        settle_name(db, at, p, bytes, lens, order, count, firsts);
+        settle(firsts, number_of(db, p, wanted), at);
         match next_name(db, p) {
-            Next::To(n) => p = n,
-            Next::Last => return,
+            Some(n) => p = n,
+            None => return,
         }
     }
 }
 
 // Settles the names of the line at a place, if it is left and not ignored.
-fn settle_line(
-    db: &[u8],
-    at: usize,
-    bytes: &[u8],
-    lens: &[usize],
-    order: &[usize],
-    count: usize,
-    firsts: &mut [usize],
-)
-    requires table { Table bytes.now lens.now order.now }
-    requires count_in_bounds { count ≤ length order.now }
-    requires firsts_len { length firsts.old ≡ length lens.now }
-    ensures { Settles at (numbered (slot_of bytes.now lens.now order.now count) (line_at db.now at))
-        firsts.old firsts.new }
+fn settle_line(db: &[u8], at: usize, wanted: &Names<'_>, firsts: &mut [usize])
+    ensures { Settles at (numbered (slot_of wanted.now.bytes.now wanted.now.lens.now wanted.now.order.now wanted.now.count)
+        (line_at db.now at)) firsts.old firsts.new }
 {
     if is_ignored(db, at) {
         return;
     }
-    let AfterNames::At(_, _) = after_names(db, at) else {
+    let Some(
+        AfterNames {
+            fields: _,
+            names: _,
+        },
+    ) = after_names(db, at)
+    else {
         return;
     };
-    settle_names(db, at, bytes, lens, order, count, firsts);
+    settle_names(db, at, wanted, firsts);
 }
 
 // Settles all names of all lines that are left.
-fn settle_lines(
-    db: &[u8],
-    bytes: &[u8],
-    lens: &[usize],
-    order: &[usize],
-    count: usize,
-    firsts: &mut [usize],
-)
+fn settle_lines(db: &[u8], wanted: &Names<'_>, firsts: &mut [usize])
     requires db_len_bound { length db.now ≤ 1048576 }
-    requires table { Table bytes.now lens.now order.now }
-    requires count_in_bounds { count ≤ length order.now }
-    requires firsts_len { length firsts.old ≡ length lens.now }
     requires unsettled { Unsettled firsts.old }
-    ensures { FirstLines db.now (slot_of bytes.now lens.now order.now count) firsts.new }
+    ensures { FirstLines db.now (slot_of wanted.now.bytes.now wanted.now.lens.now wanted.now.order.now wanted.now.count) firsts.new }
 {
     let mut at = 0;
     loop {
-        settle_line(db, at, bytes, lens, order, count, firsts);
+        settle_line(db, at, wanted, firsts);
         match next_line(db, at) {
-            Next::To(n) => at = n,
-            Next::Last => return,
+            Some(n) => at = n,
+            None => return,
         }
     }
 }
@@ -165,58 +143,46 @@ fn find_alone(db: &[u8], at: usize) -> usize
 {
     let mut bytes = [0u8; NAME_BYTES];
     let n = copy_name(db, at, &mut bytes, 0);
-    let lens = [n; 1];
-    let order = [0usize; 1];
-    let mut firsts = [NOWHERE; 1];
-    settle_lines(db, &bytes, &lens, &order, 1, &mut firsts);
+    let wanted = Names {
+        bytes: &bytes,
+        lens: &[n],
+        order: &[0],
+        count: 1,
+    };
+    let mut firsts = [NOWHERE];
+    settle_lines(db, &wanted, &mut firsts);
     firsts[0]
 }
 
 // The target of the name at a place, by the first lines of the names of a table.
-fn target_of(
-    db: &[u8],
-    at: usize,
-    bytes: &[u8],
-    lens: &[usize],
-    order: &[usize],
-    count: usize,
-    firsts: &[usize],
-) -> usize
+fn target_of(db: &[u8], at: usize, wanted: &Names<'_>, firsts: &[usize]) -> usize
     requires db_len_bound { length db.now ≤ 1048576 }
     requires at_len_bound { length (name_at db.now at) ≤ 64 }
-    requires table { Table bytes.now lens.now order.now }
-    requires count_in_bounds { count ≤ length order.now }
-    requires firsts_len { length firsts.now ≡ length lens.now }
-    requires first_lines { FirstLines db.now (slot_of bytes.now lens.now order.now count) firsts.now }
+    requires firsts_len { length firsts.now ≡ length wanted.now.lens.now }
+    requires first_lines { FirstLines db.now (slot_of wanted.now.bytes.now wanted.now.lens.now wanted.now.order.now wanted.now.count) firsts.now }
     ensures { result ≡ place_of (find (name_at db.now at) (left (lines_of db.now))) }
 {
-    let mut name = [0u8; NAME_BYTES];
-    let n = copy_name(db, at, &mut name, 0);
-    let j = slot_of(bytes, lens, order, count, &name[..n]);
-    if j < firsts.len() {
-        return firsts[j];
+    match firsts.get(number_of(db, at, wanted)) {
+        Some(first) => *first,
+        None => find_alone(db, at),
     }
-    find_alone(db, at)
 }
 
-// Copies the names from the place `from` of `names` on into a table, as many as it has room for.
-fn copy_names(db: &[u8], names: &[usize], from: usize, bytes: &mut [u8], lens: &mut [usize])
-    requires from_in_bounds { from ≤ length names.now }
+// Copies names into a table, as many as it has room for.
+fn copy_names(db: &[u8], names: &[usize], bytes: &mut [u8], lens: &mut [usize])
     requires lens_len_bound { length lens.old ≤ 4096 }
     requires at_most { AtMost 64 lens.old }
     ensures { AtMost 64 lens.new }
 {
-    let mut j = 0;
-    while j < lens.len() {
-        if j >= names.len() - from {
+    for (j, len) in lens.iter_mut().enumerate() {
+        let Some(at) = names.get(j) else {
             return;
-        }
-        let n = copy_name(db, names[from + j], bytes, j * NAME_BYTES);
+        };
+        let n = copy_name(db, *at, bytes, j * NAME_BYTES);
         if n > NAME_BYTES {
             return;
         }
-        lens[j] = n;
-        j += 1;
+        *len = n;
     }
 }
 
@@ -226,62 +192,26 @@ fn store_targets(
     names: &[usize],
     from: usize,
     to: usize,
-    bytes: &[u8],
-    lens: &[usize],
-    order: &[usize],
-    count: usize,
+    wanted: &Names<'_>,
     firsts: &[usize],
     tos: &mut [usize],
 )
     requires db_len_bound { length db.now ≤ 1048576 }
     requires short_names { ShortNames db.now names.now }
-    requires table { Table bytes.now lens.now order.now }
-    requires count_in_bounds { count ≤ length order.now }
-    requires firsts_len { length firsts.now ≡ length lens.now }
-    requires first_lines { FirstLines db.now (slot_of bytes.now lens.now order.now count) firsts.now }
+    requires firsts_len { length firsts.now ≡ length wanted.now.lens.now }
+    requires first_lines { FirstLines db.now (slot_of wanted.now.bytes.now wanted.now.lens.now wanted.now.order.now wanted.now.count) firsts.now }
     requires from_le_to { from ≤ to }
     requires to_in_bounds { to ≤ length names.now }
     requires tos_len { length tos.old ≡ length names.now }
     requires targets { Targets db.now names.now tos.old from }
     ensures { Targets db.now names.now tos.new to }
 {
-    let mut k = from;
-    while k < to {
-        tos[k] = target_of(db, names[k], bytes, lens, order, count, firsts);
-        k += 1;
+    for k in from..to {
+        tos[k] = target_of(db, names[k], wanted, firsts);
     }
 }
 
-// Finds the targets of some names from `from` on, as many as the table has room for, and answers how many are found then.
-fn find_with(
-    db: &[u8],
-    names: &[usize],
-    from: usize,
-    bytes: &mut [u8],
-    lens: &mut [usize],
-    order: &mut [usize],
-    firsts: &mut [usize],
-    tos: &mut [usize],
-) -> usize
-    requires db_len_bound { length db.now ≤ 1048576 }
-    requires short_names { ShortNames db.now names.now }
-    requires from_in_bounds { from < length names.now }
-    requires table { Table bytes.old lens.old order.old }
-    requires firsts_len { length firsts.old ≡ length lens.old }
-    requires unsettled { Unsettled firsts.old }
-    requires tos_len { length tos.old ≡ length names.now }
-    requires targets { Targets db.now names.now tos.old from }
-    ensures { (from < result) × (result ≤ length names.now) × Targets db.now names.now tos.new result }
-{
-    copy_names(db, names, from, bytes, lens);
-    let count = list_names(bytes, lens, order);
-    settle_lines(db, bytes, lens, order, count, firsts);
-    let to = batch_end(from, names.len(), lens.len());
-    store_targets(db, names, from, to, bytes, lens, order, count, firsts, tos);
-    to
-}
-
-// The same with a table of BATCH names.
+// Finds the targets of the names from `from` on, as many as a table has room for, and answers how many are found then.
 fn find_some(db: &[u8], names: &[usize], from: usize, tos: &mut [usize]) -> usize
     requires db_len_bound { length db.now ≤ 1048576 }
     requires short_names { ShortNames db.now names.now }
@@ -293,29 +223,19 @@ fn find_some(db: &[u8], names: &[usize], from: usize, tos: &mut [usize]) -> usiz
     let mut bytes = [0u8; TABLE_BYTES];
     let mut lens = [0usize; BATCH];
     let mut order = [0usize; BATCH];
+    copy_names(db, &names[from..], &mut bytes, &mut lens);
+    let count = list_names(&bytes, &lens, &mut order);
+    let wanted = Names {
+        bytes: &bytes,
+        lens: &lens,
+        order: &order,
+        count,
+    };
     let mut firsts = [NOWHERE; BATCH];
-    find_with(
-        db,
-        names,
-        from,
-        &mut bytes,
-        &mut lens,
-        &mut order,
-        &mut firsts,
-        tos,
-    )
-}
-
-// The end of at most `most` from a number on.
-fn batch_end(from: usize, all: usize, most: usize) -> usize
-    requires from_lt_all { from < all }
-    requires most_nonzero { 0 < most }
-    ensures { (from < result) × (result ≤ all) }
-{
-    if all - from > most {
-        return from + most;
-    }
-    all
+    settle_lines(db, &wanted, &mut firsts);
+    let to = from + BATCH.min(names.len() - from);
+    store_targets(db, names, from, to, &wanted, &firsts, tos);
+    to
 }
 
 // Finds the targets of all names.

@@ -6,8 +6,8 @@ use mathlib.Core.Bool.{true, false}
 use mathlib.Core.List.{List, [], ◌∷◌, ◌++◌, append-nil, append_assoc}
 use native.Mathlib.Nat.{add-zero}
 use native.Mathlib.Omega.{arith}
-use lib.ListN.{length, get_or, set, replicate, length-append}
-use lib.Seq.{sets}
+use lib.ListN.{length, get_or, set, replicate, length-append, take}
+use lib.Seq.{sets, get_or-take}
 use Rattle.spec.specs.Lines.{line_at}
 use Rattle.spec.specs.Files.{Files, contents, file_at}
 use Rattle.spec.specs.Fields.{Reading, malformed, ignored, link, capability, reading, split, fields_of, with_colons, size}
@@ -27,7 +27,7 @@ use Rattle.capability_table.proofs.Marking.{no_marks}
 use Rattle.listing.specs.Answers.{record_bytes, SomeMarks, wins, TookReading, field_bytes, written, Passes, most_for_line, WroteWinning}
 use Rattle.listing.specs.declared.Origin.{Origin}
 use Rattle.listing.specs.declared.Won.{Won}
-use Rattle.listing.specs.declared.Won.TheVariants.{No, Yes}
+use Rattle.std.specs.Prelude.{Option, Some, None}
 use Rattle.listing.specs.declared.Form.{Form}
 use Rattle.listing.specs.declared.Form.TheVariants.{Records, Texts}
 
@@ -130,24 +130,24 @@ module _ (from : Origin) (text t t' out : List ℕ) (to : ℕ) where
   abbrev here : Field
   here = record { place = from.place; file = from.file; text = text }
 
-  pub take_lost : (form : Form) (won : Won) → won ≡ No → TookReading (reading text) t t' won → Passes form (here ∷ []) t out to t' out to
+  pub take_lost : (form : Form) (won : Option Won) → won ≡ None → TookReading (reading text) t t' won → Passes form (here ∷ []) t out to t' out to
   take_lost form won e k = pass_lost form here t t' out to (rw e at k)
 
-  pub take_record : (form : Form) (won : Won) (a b k v : ℕ) (out' : List ℕ) → form ≡ Records → won ≡ Yes a b k v
+  pub take_record : (form : Form) (won : Option Won) (w : Won) (out' : List ℕ) → form ≡ Records → won ≡ Some w
       → TookReading (reading text) t t' won
-      → out' ≡ sets out to (record_bytes a b k from v) → Passes form (here ∷ []) t out to t' out' (to + 12)
-  take_record form won a b k v out' g e h s =
+      → out' ≡ sets out to (record_bytes w.a w.b w.kind from w.value) → Passes form (here ∷ []) t out to t' out' (to + 12)
+  take_record form won w out' g e h s =
       pass_won form here t t' out to out' (to + 12) λ qs m.
-      let w = (rw e at h) qs m in
-      (w.0, w.1.0, rw (g, w.1.1 from), rw (g, w.1.1 from) s)
+      let p = (rw e at h) qs m in
+      (p.0, p.1.0, rw (g, p.1.1 from), rw (g, p.1.1 from) s)
 
-  pub take-text : (form : Form) (won : Won) (a b k v n : ℕ) (out₁ out' : List ℕ) → form ≡ Texts → won ≡ Yes a b k v
+  pub take-text : (form : Form) (won : Option Won) (w : Won) (n : ℕ) (out₁ out' : List ℕ) → form ≡ Texts → won ≡ Some w
       → TookReading (reading text) t t' won → n ≡ length text → out₁ ≡ sets out to text → out' ≡ set out₁ (to + n) 58
       → Passes form (here ∷ []) t out to t' out' (to + n + 1)
-  take-text form won a b k v n out₁ out' g e h l s s' =
+  take-text form won w n out₁ out' g e h l s s' =
       pass_won form here t t' out to out' (to + n + 1) λ qs m.
-      let w = (rw e at h) qs m in
-      (w.0, w.1.0, rw g (omega (arith, length-append text (58 ∷ []))), rw (g, stored-append out to text (58 ∷ []), ← s, ← l) s')
+      let p = (rw e at h) qs m in
+      (p.0, p.1.0, rw g (omega (arith, length-append text (58 ∷ []))), rw (g, stored-append out to text (58 ∷ []), ← s, ← l) s')
 
 -- ---- the fields of a line
 
@@ -173,11 +173,13 @@ module _ (from : Origin) where
 
 module _ (db : List (List ℕ)) (lines : List Location) (n i : ℕ) (d : Location) (part : List ℕ) where
   -- the fields of the i-th line, read in the part of its file
-  pub chain_more : (all done : List Field) → i < n → i < length lines → part ≡ file_at db (get_or lines i d).file → all ≡ done ++ fields_from db lines n i
-      → all ≡ (done ++ placed i (get_or lines i d).file (fields_of (line_at part (get_or lines i d).at))) ++ fields_from db lines n (i + 1)
+  pub chain_more : (all done : List Field) → i < n → i < length lines → part ≡ file_at db (get_or (take n lines) i d).file
+      → all ≡ done ++ fields_from db lines n i
+      → all ≡ (done ++ placed i (get_or (take n lines) i d).file (fields_of (line_at part (get_or (take n lines) i d).at))) ++ fields_from db lines n (i + 1)
   chain_more all done h k e a =
-      let l = line_of_part db (get_or lines i d) part e in
-      a ∙ rw (from_next db lines n d i h k, l) (sym (append_assoc done _ _))
+      let same = get_or-take n lines i d h in
+      let l = line_of_part db (get_or lines i d) part (rw same at e) in
+      rw same (a ∙ rw (from_next db lines n d i h k, l) (sym (append_assoc done _ _)))
 
 pub part_small : (db : Files) (k : ℕ) (part : List ℕ) → part ≡ file_at (contents db) k → length part ≤ length db.bytes
 part_small db k part e = rw e (file-short db k)

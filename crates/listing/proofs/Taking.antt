@@ -15,11 +15,13 @@ use Rattle.capability_table.specs.Table.{is_first, marked}
 use Rattle.capability_table.proofs.Marking.{other-marks, capability-marks, first_open}
 use Rattle.listing.specs.Answers.{won_if, WonAfter, TookReading}
 use Rattle.listing.specs.declared.Won.{Won}
-use Rattle.listing.specs.declared.Won.TheVariants.{No}
+use Rattle.std.specs.Prelude.{Option, None}
 
 -- malformed, ignored, or a link: the answers that the arm `_` takes together, by their tags
-pub took_other : (s : List ℕ) (at : ℕ) (read : FieldRead) (t : List ℕ) → Reads s at read → ((a b : ℕ) → read ≡ Cancel a b → ⊥) → ((a b : ℕ) → read ≡ Flag a b → ⊥) → ((a b v : ℕ) → read ≡ Number a b v → ⊥) → ((a b text n : ℕ) → read ≡ String a b text n → ⊥)
-    → TookReading (reading (field_at s at)) t t No
+pub took_other : (s : List ℕ) (at : ℕ) (read : FieldRead) (t : List ℕ) → Reads s at read
+    → ((a b : ℕ) → read ≡ Cancel a b → ⊥) → ((a b : ℕ) → read ≡ Flag a b → ⊥)
+    → ((a b v : ℕ) → read ≡ Number a b v → ⊥) → ((a b text n : ℕ) → read ≡ String a b text n → ⊥)
+    → TookReading (reading (field_at s at)) t t None
 unfolding matches can_win
 took_other s at Malformed t h o0 o1 o2 o3 = rw h (λ qs m. (other-marks malformed qs t (λ id k. refl) m, refl))
 took_other s at Ignored t h o0 o1 o2 o3 = rw h (λ qs m. (other-marks ignored qs t (λ id k. refl) m, refl))
@@ -31,11 +33,11 @@ took_other s at (String a b text n) t h o0 o1 o2 o3 = absurd (o3 a b text n refl
 
 module _ (text t : List ℕ) where
   module _ (a b : ℕ) where
-    pub took_cancel : (t' : List ℕ) → reading text ≡ capability a b cancel → t' ≡ marked t a b 0 → TookReading (reading text) t t' No
+    pub took_cancel : (t' : List ℕ) → reading text ≡ capability a b cancel → t' ≡ marked t a b 0 → TookReading (reading text) t t' None
     unfolding can_win
     took_cancel t' e s = rw (s, e) (λ qs m. (capability-marks text a b cancel e qs t m, refl))
 
-    pub took_capability : (c : Content) (t' : List ℕ) (won : Won) → reading text ≡ capability a b c → can_win (capability a b c) ≡ true
+    pub took_capability : (c : Content) (t' : List ℕ) (won : Option Won) → reading text ≡ capability a b c → can_win (capability a b c) ≡ true
         → t' ≡ marked t a b (content_kind c) → won ≡ won_if (is_first t a b (content_kind c)) a b (content_kind c) (content_value c)
         → TookReading (reading text) t t' won
     unfolding record_of

@@ -1,6 +1,6 @@
 -- What the functions answer: one pass over the fields with a table of the capabilities that were met, and the bytes that the pass writes
 -- for the winning ones.
-use Rattle.std.specs.Prelude.{ℕ, ◌+◌, ◌≡◌, Bool, true, false, not, List, [], ◌∷◌, ◌++◌, length}
+use Rattle.std.specs.Prelude.{ℕ, ◌+◌, ◌≤◌, ◌≡◌, Bool, true, false, not, List, [], ◌∷◌, ◌++◌, length, Result, Option, Some, None}
 use Rattle.std.proofs.lemmas.List.Edits.{sets}
 use Rattle.spec.specs.Choice.{both}
 use Rattle.spec.specs.Fields.{Reading, reading}
@@ -8,7 +8,6 @@ use Rattle.spec.specs.Chain.{Field, first_names, joined_fields}
 use Rattle.spec.specs.Lookup.{can_win, hidden, winning_after, winning, read_before}
 use Rattle.spec.specs.Answers.{put}
 use Rattle.spec.specs.Listing.{four_bytes, record_of, records, flat_text, Bounded}
-use Rattle.spec.specs.declared.Written.{Written}
 use Rattle.field_bounds.specs.Answers.{field_at}
 use Rattle.fields.specs.Readings.{Reads}
 use Rattle.fields.specs.declared.FieldRead.{FieldRead}
@@ -19,7 +18,7 @@ use Rattle.listing.specs.declared.Form.{Form}
 use Rattle.listing.specs.declared.Form.TheVariants.{Records, Texts}
 use Rattle.listing.specs.declared.Origin.{Origin}
 use Rattle.listing.specs.declared.Won.{Won}
-use Rattle.listing.specs.declared.Won.TheVariants.{No, Yes}
+use Rattle.spec.specs.declared.Refusal.{Refusal}
 
 -- The record of a capability.
 abbrev pub record_bytes : ℕ → ℕ → ℕ → Origin → ℕ → List ℕ
@@ -28,9 +27,9 @@ record_bytes a b k from v = a ∷ b ∷ k ∷ from.place ∷ four_bytes v ++ fro
 abbrev pub SomeMarks : List ℕ → Type 0
 SomeMarks table = (qs : List Reading) × Marks qs table
 
-abbrev pub won_if : Bool → ℕ → ℕ → ℕ → ℕ → Won
-won_if true a b k v = Yes a b k v
-won_if false a b k v = No
+abbrev pub won_if : Bool → ℕ → ℕ → ℕ → ℕ → Option Won
+won_if true a b k v = Some (record { a = a; b = b; kind = k; value = v })
+won_if false a b k v = None
 
 -- ---- a field in the pass
 
@@ -38,16 +37,16 @@ won_if false a b k v = No
 abbrev pub wins : List Reading → Reading → Bool
 wins qs r = both (can_win r) (not (hidden qs r))
 
-abbrev pub WonAfter : List Reading → Reading → Won → Type 0
-WonAfter qs r No = wins qs r ≡ false
-WonAfter qs r (Yes a b k v) = (wins qs r ≡ true) × ((from : Origin) → record_of from.place from.file r ≡ record_bytes a b k from v)
+abbrev pub WonAfter : List Reading → Reading → Option Won → Type 0
+WonAfter qs r None = wins qs r ≡ false
+WonAfter qs r (Some w) = (wins qs r ≡ true) × ((from : Origin) → record_of from.place from.file r ≡ record_bytes w.a w.b w.kind from w.value)
 
 -- A field with that reading is marked, and it wins or not.
-abbrev pub TookReading : Reading → List ℕ → List ℕ → Won → Type 0
+abbrev pub TookReading : Reading → List ℕ → List ℕ → Option Won → Type 0
 TookReading r table table' won = (qs : List Reading) → Marks qs table → Marks (r ∷ qs) table' × WonAfter qs r won
 
 -- `take_field`: whatever field is read so.
-abbrev pub Took : FieldRead → List ℕ → List ℕ → Won → Type 0
+abbrev pub Took : FieldRead → List ℕ → List ℕ → Option Won → Type 0
 Took read table table' won = (s : List ℕ) (at : ℕ) → Reads s at read → TookReading (reading (field_at s at)) table table' won
 
 -- ---- what is written
@@ -88,7 +87,7 @@ WroteWinning form fs out to out' end = (end ≡ to + length (written form (winni
 -- ---- List and Flat
 
 -- An answer, and the buffer afterwards, as `put` has them.
-abbrev pub Put : List ℕ → ℕ → List ℕ → Written → List ℕ → Type 0
+abbrev pub Put : List ℕ → ℕ → List ℕ → Result ℕ Refusal → List ℕ → Type 0
 Put bytes n buffer r after = (r ≡ (put bytes n buffer).answer) × (after ≡ (put bytes n buffer).buffer)
 
 -- The records and Flat of a chain.
@@ -101,3 +100,11 @@ flat_of db c = flat_text (first_names db (lines_of c)) (joined_fields db 0 (line
 -- What is known of both for every accepted chain.
 abbrev pub BoundedChain : List (List ℕ) → Chain → Type 0
 BoundedChain db c = Bounded (first_names db (lines_of c)) (joined_fields db 0 (lines_of c))
+
+-- What is written of a chain in each form, and a count of bytes that serves for every accepted one.
+abbrev pub whole_of : Form → List (List ℕ) → Chain → List ℕ
+whole_of Records db c = records_of db c
+whole_of Texts db c = flat_of db c
+
+abbrev pub ServesAll : Form → ℕ → Type 0
+ServesAll form n = (db : List (List ℕ)) (c : Chain) → BoundedChain db c → length (whole_of form db c) ≤ n

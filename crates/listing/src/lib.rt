@@ -8,7 +8,6 @@ ghost use Rattle.spec.specs.Lines.{line_at};
 ghost use Rattle.spec.specs.Files.{files, contents};
 ghost use Rattle.spec.specs.Fields.{split, fields_of};
 ghost use Rattle.spec.specs.Chain.{placed, joined_fields};
-ghost use Rattle.spec.specs.Lookup.{winning};
 ghost use Rattle.spec.specs.Answers.{written_report};
 ghost use Rattle.spec.specs.Listing.{list_outcome, list_report, flat_outcome, flat_report};
 ghost use Rattle.field_bounds.specs.Answers.{field_at};
@@ -16,15 +15,15 @@ ghost use Rattle.fields.specs.Readings.{Reads};
 ghost use Rattle.chain.specs.Answers.{lines_of};
 ghost use Rattle.capability_table.specs.Table.{is_first, marked};
 ghost use Rattle.listing.specs.Answers.{record_bytes, won_if, SomeMarks, Took, one_field, Passes, most_for_line, farthest, WroteWinning};
-ghost use Rattle.listing.specs.Answers.{records_of, flat_of, BoundedChain, Put};
+ghost use Rattle.listing.specs.Answers.{flat_of, whole_of, BoundedChain, ServesAll, Put};
 
 use capability_table::{CANCEL, NAMES, meet};
-use chain::{Chain, Ended};
+use chain::Chain;
 use field_bounds::{AfterNames, after_names, copy_field};
-use fields::{FieldRead, NextField, next_field};
+use fields::{Field, FieldRead, next_field};
 use files::file;
-use spec::{Kind, Refusal, Written};
-use stores::{put_byte, put_bytes};
+use spec::{Kind, Refusal};
+use stores::{four_bytes, put_byte, put_bytes};
 use terminal::resolve;
 
 const RECORD_SIZE: usize = 12;
@@ -48,33 +47,25 @@ pub struct Origin {
     pub file: u8,
 }
 
-// Whether a field wins; if so, its name, the number of its kind, and its value.
+// What a winning field tells: its name, the number of its kind, which the table and a record have as a number, and its value.
 #[derive(Clone, Copy)]
-pub enum Won {
-    No,
-    Yes(u8, u8, u8, u64),
+pub struct Won {
+    pub a: u8,
+    pub b: u8,
+    pub kind: u8,
+    pub value: u64,
 }
 
 // ---- a record
 
 // "Two name bytes; kind; place of the description in the chain from 0; a 32-bit value, high byte first"; "the file number from 0 and three
 // zeros at the end".
-fn put_record(out: &mut [u8], at: usize, a: u8, b: u8, kind: u8, from: Origin, value: u64)
-    ensures { out.new ≡ sets out.old at (record_bytes a b kind from value) }
+fn put_record(out: &mut [u8], at: usize, won: Won, from: Origin)
+    ensures { out.new ≡ sets out.old at (record_bytes won.a won.b won.kind from won.value) }
 {
+    let [a, b, c, d] = four_bytes(won.value);
     let record = [
-        a,
-        b,
-        kind,
-        from.place,
-        (value / 16777216 % 256) as u8,
-        (value / 65536 % 256) as u8,
-        (value / 256 % 256) as u8,
-        (value % 256) as u8,
-        from.file,
-        0,
-        0,
-        0,
+        won.a, won.b, won.kind, from.place, a, b, c, d, from.file, 0, 0, 0,
     ];
     put_bytes(out, at, &record);
 }
@@ -82,32 +73,33 @@ fn put_record(out: &mut [u8], at: usize, a: u8, b: u8, kind: u8, from: Origin, v
 // ---- the pass over the fields
 
 // Marks a capability as met, and tells whether it wins.
-fn take_capability(seen: &mut [u8; NAMES], a: u8, b: u8, kind: u8, value: u64) -> Won
+fn take_capability(seen: &mut [u8; NAMES], a: u8, b: u8, kind: u8, value: u64) -> Option<Won>
     ensures { (seen.new ≡ marked seen.old a b kind) × (result ≡ won_if (is_first seen.old a b kind) a b kind value) }
 {
     if meet(seen, a, b, kind) {
-        return Won::Yes(a, b, kind, value);
+        return Some(Won { a, b, kind, value });
     }
-    Won::No
+    None
 }
 
 // Marks a field as met, by what it is read as, and tells whether it wins.
-fn take_field(read: FieldRead, seen: &mut [u8; NAMES]) -> Won
+fn take_field(read: FieldRead, seen: &mut [u8; NAMES]) -> Option<Won>
     ensures { Took read seen.old seen.new result }
 {
     match read {
         FieldRead::Cancel(a, b) => {
             meet(seen, a, b, CANCEL);
-            Won::No
+            None
         }
         FieldRead::Flag(a, b) => take_capability(seen, a, b, Kind::FLAG, 1),
         FieldRead::Number(a, b, v) => take_capability(seen, a, b, Kind::NUMBER, v as u64),
         FieldRead::String(a, b, _, n) => take_capability(seen, a, b, Kind::STRING, n as u64),
-        _ => Won::No,
+        _ => None,
     }
 }
 
-// Writes what belongs to the field at a place, if it wins: its record, or its text and a colon. Answers the place behind it.
+// Writes what belongs to the field at a place, if it wins: its record, or its text and a colon. Answers the place behind it. The table, the
+// buffer and the place stay three arguments, here and below: both are lent, and `Passes` tells of each before and after.
 fn write_field(
     s: &[u8],
     at: usize,
@@ -122,12 +114,12 @@ fn write_field(
     ensures { Passes form (one_field from (field_at s.now at)) seen.old out.old to
         seen.new out.new result }
 {
-    let Won::Yes(a, b, kind, value) = take_field(read, seen) else {
+    let Some(won) = take_field(read, seen) else {
         return to;
     };
     match form {
         Form::Records => {
-            put_record(out, to, a, b, kind, from, value);
+            put_record(out, to, won, from);
             to + RECORD_SIZE
         }
         Form::Texts => {
@@ -155,7 +147,7 @@ fn write_fields(
     let mut end = to;
     let mut at = 0;
     loop {
-        let NextField::Field(read, _, next) = next_field(s, at) else {
+        let Some(Field { read, next, .. }) = next_field(s, at) else {
             return end;
         };
         end = write_field(s, at, read, from, form, seen, out, end);
@@ -178,7 +170,7 @@ fn write_line(
         seen.new out.new result
         × (result ≤ to + most_for_line) }
 {
-    let AfterNames::At(fields, _) = after_names(s, at) else {
+    let Some(AfterNames { fields, .. }) = after_names(s, at) else {
         return to;
     };
     write_fields(&s[fields..], from, form, seen, out, to)
@@ -198,62 +190,26 @@ fn write_winning(
         out.new result }
 {
     let mut seen = [0u8; NAMES];
-    let lines = c.lines;
-    let n = c.count;
     let mut end = to;
-    let mut i = 0;
-    while i < n {
-        let p = lines[i];
-        let k = p.file;
+    for (i, p) in c.lines[..c.count].iter().enumerate() {
         let from = Origin {
             place: i as u8,
-            file: k,
+            file: p.file,
         };
-        end = write_line(file(db, ends, k), p.at, from, form, &mut seen, out, end);
-        i += 1;
+        end = write_line(
+            file(db, ends, p.file),
+            p.at,
+            from,
+            form,
+            &mut seen,
+            out,
+            end,
+        );
     }
     end
 }
 
 // ---- List and Flat: measured where a chain can need more than the lent buffer has, then written
-
-// Whether the records of a chain have room.
-fn records_fit(db: &[u8], ends: &[usize], c: Chain, room: usize) -> bool
-    requires { (length db.now ≤ 1048576) × (c.count ≤ 32) × BoundedChain (contents (files db.now ends.now)) c }
-    ensures { result ≡ leb (length (records_of (contents (files db.now ends.now)) c)) room }
-{
-    if room >= MOST_RECORD_BYTES {
-        return true;
-    }
-    let mut buffer = [0u8; 1];
-    write_winning(db, ends, c, Form::Records, &mut buffer, 0) <= room
-}
-
-fn write_list(db: &[u8], ends: &[usize], c: Chain, out: &mut [u8]) -> Written
-    requires { (length db.now ≤ 1048576) × (c.count ≤ 32) × BoundedChain (contents (files db.now ends.now)) c }
-    ensures { Put (records_of (contents (files db.now ends.now)) c)
-        (length (winning (joined_fields (contents (files db.now ends.now)) 0 (lines_of c))))
-        out.old result out.new }
-{
-    if !records_fit(db, ends, c, out.len()) {
-        return Written::Refused(Refusal::NoRoom);
-    }
-    let n = write_winning(db, ends, c, Form::Records, out, 0);
-    Written::Count(n / RECORD_SIZE)
-}
-
-pub fn list(db: &[u8], ends: &[usize], name: &[u8], out: &mut [u8]) -> Written
-    ensures { (result ≡ (list_outcome (files db.now ends.now) name.now out.old).answer)
-        × (out.new ≡ (list_outcome (files db.now ends.now) name.now out.old).buffer)
-        × (written_report result ≡ list_report (files db.now ends.now) name.now out.old) }
-{
-    let w = resolve(db, ends, name);
-    let ended = w.ended;
-    match ended {
-        Ended::Refused(r) => Written::Refused(r),
-        Ended::Accepted => write_list(db, ends, w.chain, out),
-    }
-}
 
 // "The first line's names, a colon, then each winning field as written (joined) with a colon, then a newline."
 fn put_flat(db: &[u8], ends: &[usize], c: Chain, out: &mut [u8]) -> usize
@@ -261,49 +217,81 @@ fn put_flat(db: &[u8], ends: &[usize], c: Chain, out: &mut [u8]) -> usize
     ensures { (result ≡ length (flat_of (contents (files db.now ends.now)) c))
         × (out.new ≡ sets out.old 0 (flat_of (contents (files db.now ends.now)) c)) }
 {
-    let lines = c.lines;
-    let p = lines[0];
-    let k = p.file;
-    let names = copy_field(file(db, ends, k), p.at, out, 0);
+    let first = c.lines[0];
+    let names = copy_field(file(db, ends, first.file), first.at, out, 0);
     put_byte(out, names, b':');
     let end = write_winning(db, ends, c, Form::Texts, out, names + 1);
     put_byte(out, end, b'\n');
     end + 1
 }
 
-// Whether Flat of a chain has room.
-fn flat_fits(db: &[u8], ends: &[usize], c: Chain, room: usize) -> bool
+// All records of a chain, or its Flat. Answers the bytes written.
+fn put_chain(db: &[u8], ends: &[usize], c: Chain, form: Form, out: &mut [u8]) -> usize
     requires { (length db.now ≤ 1048576) × (0 < c.count) × (c.count ≤ 32) × BoundedChain (contents (files db.now ends.now)) c }
-    ensures { result ≡ leb (length (flat_of (contents (files db.now ends.now)) c)) room }
+    ensures { (result ≡ length (whole_of form (contents (files db.now ends.now)) c))
+        × (out.new ≡ sets out.old 0 (whole_of form (contents (files db.now ends.now)) c)) }
 {
-    if room >= MOST_FLAT_BYTES {
+    match form {
+        Form::Records => write_winning(db, ends, c, Form::Records, out, 0),
+        Form::Texts => put_flat(db, ends, c, out),
+    }
+}
+
+// What any chain can need.
+fn most_bytes(form: Form) -> usize
+    ensures { ServesAll form result }
+{
+    match form {
+        Form::Records => MOST_RECORD_BYTES,
+        Form::Texts => MOST_FLAT_BYTES,
+    }
+}
+
+// Whether what is written of a chain has room.
+fn fits(db: &[u8], ends: &[usize], c: Chain, form: Form, room: usize) -> bool
+    requires { (length db.now ≤ 1048576) × (0 < c.count) × (c.count ≤ 32) × BoundedChain (contents (files db.now ends.now)) c }
+    ensures { result ≡ leb (length (whole_of form (contents (files db.now ends.now)) c)) room }
+{
+    if room >= most_bytes(form) {
         return true;
     }
     let mut buffer = [0u8; 1];
-    put_flat(db, ends, c, &mut buffer) <= room
+    put_chain(db, ends, c, form, &mut buffer) <= room
 }
 
-fn write_flat(db: &[u8], ends: &[usize], c: Chain, out: &mut [u8]) -> Written
+fn write_chain(
+    db: &[u8],
+    ends: &[usize],
+    c: Chain,
+    form: Form,
+    out: &mut [u8],
+) -> Result<usize, Refusal>
     requires { (length db.now ≤ 1048576) × (0 < c.count) × (c.count ≤ 32) × BoundedChain (contents (files db.now ends.now)) c }
-    ensures { Put (flat_of (contents (files db.now ends.now)) c)
-        (length (flat_of (contents (files db.now ends.now)) c))
+    ensures { Put (whole_of form (contents (files db.now ends.now)) c)
+        (length (whole_of form (contents (files db.now ends.now)) c))
         out.old result out.new }
 {
-    if !flat_fits(db, ends, c, out.len()) {
-        return Written::Refused(Refusal::NoRoom);
+    if !fits(db, ends, c, form, out.len()) {
+        return Err(Refusal::NoRoom);
     }
-    Written::Count(put_flat(db, ends, c, out))
+    Ok(put_chain(db, ends, c, form, out))
 }
 
-pub fn flat(db: &[u8], ends: &[usize], name: &[u8], out: &mut [u8]) -> Written
+pub fn list(db: &[u8], ends: &[usize], name: &[u8], out: &mut [u8]) -> Result<usize, Refusal>
+    ensures { (result ≡ (list_outcome (files db.now ends.now) name.now out.old).answer)
+        × (out.new ≡ (list_outcome (files db.now ends.now) name.now out.old).buffer)
+        × (written_report result ≡ list_report (files db.now ends.now) name.now out.old) }
+{
+    let chain = resolve(db, ends, name)?;
+    let n = write_chain(db, ends, chain, Form::Records, out)?;
+    Ok(n / RECORD_SIZE)
+}
+
+pub fn flat(db: &[u8], ends: &[usize], name: &[u8], out: &mut [u8]) -> Result<usize, Refusal>
     ensures { (result ≡ (flat_outcome (files db.now ends.now) name.now out.old).answer)
         × (out.new ≡ (flat_outcome (files db.now ends.now) name.now out.old).buffer)
         × (written_report result ≡ flat_report (files db.now ends.now) name.now out.old) }
 {
-    let w = resolve(db, ends, name);
-    let ended = w.ended;
-    match ended {
-        Ended::Refused(r) => Written::Refused(r),
-        Ended::Accepted => write_flat(db, ends, w.chain, out),
-    }
+    let chain = resolve(db, ends, name)?;
+    write_chain(db, ends, chain, Form::Texts, out)
 }

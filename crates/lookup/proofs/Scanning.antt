@@ -11,7 +11,7 @@ use Rattle.spec.specs.declared.Location.{Location}
 use Rattle.spec.specs.Fields.{reading, fields_of}
 use Rattle.spec.specs.Chain.{Field, placed}
 use Rattle.spec.specs.Lookup.{Hit, none, hit, matches, lookup}
-use Rattle.chain.proofs.JoinedFields.{fields_from, from_end, from_all, from_next}
+use Rattle.chain.proofs.JoinedFields.{fields_from, from_end, from_next}
 use Rattle.fields.specs.Readings.{ReadAs}
 use Rattle.fields.specs.declared.FieldRead.{FieldRead}
 use Rattle.lookup.specs.Answers.{has_name, has_kind, Scan, goes_on, cancelled, answered, scan}
@@ -66,10 +66,6 @@ module _ (id : List ℕ) (k : ℕ) where
     pub look_end : n ≤ i → lookup id k (fields_from db lines n i) ≡ none
     unfolding lookup
     look_end h = rw (from_end db lines n i h)
-
-    pub look_all : length lines ≤ i → lookup id k (fields_from db lines n i) ≡ none
-    unfolding lookup
-    look_all h = rw (from_all db lines n i h)
 
     -- the i-th line is l
     module _ (inside : i < n) (array : i < length lines) (d : Location) (l : List ℕ) (line : line_of db (get_or lines i d) ≡ l) where

@@ -1,5 +1,5 @@
 -- What the functions answer, by the cases of their answers.
-use Rattle.std.specs.Prelude.{ℕ, ◌≤◌, ◌≡◌, Bool, true, false, List, [], ◌∷◌, eqb, length, take, drop}
+use Rattle.std.specs.Prelude.{ℕ, ◌≤◌, ◌≡◌, Bool, true, false, List, [], ◌∷◌, eqb, length, take, drop, Option, Some, None}
 use Rattle.spec.specs.Choice.{pick}
 use Rattle.spec.specs.Lists.{same}
 use Rattle.spec.specs.Fields.{reading}
@@ -13,8 +13,7 @@ use Rattle.lookup.specs.declared.Match.{Match}
 use Rattle.lookup.specs.declared.Match.TheVariants.{Passes, Cancels, Answers}
 use Rattle.lookup.specs.declared.LineHit.{LineHit}
 use Rattle.lookup.specs.declared.LineHit.TheVariants.{Open, Cancelled, Answered}
-use Rattle.lookup.specs.declared.ChainHit.{ChainHit}
-use Rattle.lookup.specs.declared.ChainHit.TheVariants.{Nothing, Field as FieldAt}
+use Rattle.spec.specs.declared.Location.{Location}
 
 -- ---- one field
 
@@ -59,7 +58,7 @@ Scanned id k ts s (Answered read) = (t : List ℕ) × (scan id k ts ≡ answered
 -- ---- the chain
 
 -- `look_up`: no field answers; or one does, and this is what it is read as in the part of one of the files from a place on.
-abbrev pub LookedUp : List ℕ → ℕ → List Field → List (List ℕ) → ChainHit → Type 0
-LookedUp id k fs db Nothing = lookup id k fs ≡ none
-LookedUp id k fs db (FieldAt l read) =
+abbrev pub LookedUp : List ℕ → ℕ → List Field → List (List ℕ) → Option (Location × FieldRead) → Type 0
+LookedUp id k fs db None = lookup id k fs ≡ none
+LookedUp id k fs db (Some (l, read)) =
     (t : List ℕ) × (lookup id k fs ≡ hit t) × ReadAs (drop l.at (file_at db l.file)) (reading t) read × (l.at ≤ length (file_at db l.file))

@@ -12,9 +12,8 @@ ghost use Rattle.lookup.specs.Answers.{has_name, has_kind, Matched, Scanned, Loo
 
 use chain::{Chain, MOST_DESCRIPTIONS};
 use field_bounds::{AfterNames, Bounds, after_names, field_byte, next_bounds};
-use fields::{FieldRead, NextField, next_field};
+use fields::{Field, FieldRead, next_field};
 use files::file;
-use lines::Step;
 use spec::{Kind, Location};
 
 // What a field with the asked name is to a question: it is passed over, it is a cancel, or it answers.
@@ -33,25 +32,17 @@ enum LineHit {
     Answered(FieldRead),
 }
 
-// What a lookup finds in a chain: nothing; or the place of a file where the fields of a line start, and what the field that answers is read
-// as in the part of the file from there on.
-#[derive(Clone, Copy)]
-pub enum ChainHit {
-    Nothing,
-    Field(Location, FieldRead),
-}
-
 // Whether the field at a place starts with two bytes.
 fn has_name(s: &[u8], at: usize, a: u8, b: u8) -> bool
     ensures { result ≡ has_name (a ∷ b ∷ []) (field_at s.now at) }
 {
-    let Step::Byte(x, i) = field_byte(s, at) else {
+    let Some((x, i)) = field_byte(s, at) else {
         return false;
     };
     if a != x {
         return false;
     }
-    let Step::Byte(y, _) = field_byte(s, i) else {
+    let Some((y, _)) = field_byte(s, i) else {
         return false;
     };
     b == y
@@ -90,13 +81,13 @@ fn scan_fields(s: &[u8], a: u8, b: u8, kind: u8) -> LineHit
     let mut at = 0;
     loop {
         if !has_name(s, at, a, b) {
-            let Bounds::Field(_, next) = next_bounds(s, at) else {
+            let Some(Bounds { next, .. }) = next_bounds(s, at) else {
                 return LineHit::Open;
             };
             at = next;
             continue;
         }
-        let NextField::Field(read, _, next) = next_field(s, at) else {
+        let Some(Field { read, next, .. }) = next_field(s, at) else {
             return LineHit::Open;
         };
         match match_read(read, kind) {
@@ -107,32 +98,38 @@ fn scan_fields(s: &[u8], a: u8, b: u8, kind: u8) -> LineHit
     }
 }
 
-// "The first field of that name and kind, unless a cancel of that name stands earlier." A chain has no more lines than its array, whatever
-// its count is.
-pub fn look_up(db: &[u8], ends: &[usize], c: Chain, a: u8, b: u8, kind: Kind) -> ChainHit
+// "The first field of that name and kind, unless a cancel of that name stands earlier": the place of a file where the fields of its line
+// start, and what it is read as in the part of the file from there on. A chain has no more lines than its array, whatever its count is.
+pub fn look_up(
+    db: &[u8],
+    ends: &[usize],
+    c: Chain,
+    a: u8,
+    b: u8,
+    kind: Kind,
+) -> Option<(Location, FieldRead)>
     ensures { LookedUp (a ∷ b ∷ []) (kind_number kind) (joined_fields (contents (files db.now ends.now)) 0 (lines_of c))
         (contents (files db.now ends.now)) result }
 {
-    let lines = c.lines;
-    let n = c.count;
     let number = kind.number();
-    let mut i = 0;
-    while i < n {
-        if i >= MOST_DESCRIPTIONS {
-            return ChainHit::Nothing;
-        }
-        let p = lines[i];
+    let n = c.count.min(MOST_DESCRIPTIONS);
+    for p in &c.lines[..n] {
         let k = p.file;
         let part = file(db, ends, k);
-        let AfterNames::At(from, _) = after_names(part, p.at) else {
-            i += 1;
+        let Some(AfterNames { fields, .. }) = after_names(part, p.at) else {
             continue;
         };
-        match scan_fields(&part[from..], a, b, number) {
-            LineHit::Open => i += 1,
-            LineHit::Cancelled => return ChainHit::Nothing,
-            LineHit::Answered(read) => return ChainHit::Field(Location { file: k, at: from }, read),
+        match scan_fields(&part[fields..], a, b, number) {
+            LineHit::Open => {}
+            LineHit::Cancelled => return None,
+            LineHit::Answered(read) => return Some((
+                Location {
+                    file: k,
+                    at: fields,
+                },
+                read,
+            )),
         }
     }
-    ChainHit::Nothing
+    None
 }

@@ -14,8 +14,8 @@ use Rattle.fields.specs.declared.FieldRead.TheVariants.{Malformed, Ignored, Link
 
 module _ (linked : Bool) (reason : ℕ) (s : List ℕ) (at : ℕ) where
   -- a capability
-  pub reason-capability : (read : FieldRead) → (read ≡ Malformed → ⊥) → (read ≡ Ignored → ⊥) → ((name : ℕ) → read ≡ Link name → ⊥) → Reads s at read
-      → field_reason linked reason (reading (field_at s at)) ≡ pick linked 3 0
+  pub reason-capability : (read : FieldRead) → (read ≡ Malformed → ⊥) → (read ≡ Ignored → ⊥) → ((name : ℕ) → read ≡ Link name → ⊥)
+      → Reads s at read → field_reason linked reason (reading (field_at s at)) ≡ pick linked 3 0
   unfolding field_reason
   reason-capability Malformed t0 t1 t2 h = absurd (t0 refl)
   reason-capability Ignored t0 t1 t2 h = absurd (t1 refl)
@@ -37,10 +37,6 @@ module _ (s : List ℕ) (at : ℕ) where
   linked-other (Flag a b) t h = rw h
   linked-other (Number a b v) t h = rw h
   linked-other (String a b text n) t h = rw h.1
-
-pub either_false : (x : Bool) → x ≡ either x false
-either_false true = refl
-either_false false = refl
 
 pub either_true : (x : Bool) → true ≡ either x true
 either_true true = refl

@@ -1,5 +1,6 @@
 -- The fields of a line as they are written, one by one: where each ends, and what is written for it.
 -- Assumes nothing.
+use Rattle.std.specs.Prelude.{Some, None}
 use Prim.Native.Nat.{ℕ, ◌+◌, ◌≤◌, ◌<◌}
 use mathlib.Core.Path.{◌≡◌, refl, ◌∙◌, ap, sym}
 use mathlib.Core.Bool.{Bool, true, false}
@@ -29,13 +30,12 @@ use Rattle.laws.proofs.FieldSteps.{split_nil}
 use Rattle.laws.proofs.KeptFields.{Pieced, pieces_pieced, pieces-flat, ends-past}
 use Rattle.laws.proofs.NoLonger.{kept-closed-short}
 use Rattle.field_bounds.specs.Answers.{field_at, NamesPassed}
-use Rattle.field_bounds.specs.declared.AfterNames.TheVariants.{At, NoColon}
 use Rattle.field_bounds.proofs.Pieces.{past-none}
 use Rattle.field_bounds.proofs.WholeFields.{split-some, split-none, no_field}
 use Rattle.field_bounds.proofs.LineBounds.{line_bound, field_bound}
 use Rattle.mended_fields.specs.Parts.{Put, colon_if, piece_at, PartFound, record_if, records_from, written_if, kept_from}
 use Rattle.mended_fields.proofs.Storing.{put_nothing}
-use Rattle.mended_fields.specs.declared.NextPart.TheVariants.{Part as SomePart}
+use Rattle.std.specs.Prelude.{Some}
 
 -- ---- the first piece of a text, by its next colon
 
@@ -92,14 +92,14 @@ module _ (s : List ℕ) (at n next : ℕ) (e : split (line_at s at) ≡ field_at
   first_piece_lem : pieces (line_at s at) ≡ piece_at s at ∷ pieces (past 58 (line_at s at))
   first_piece_lem = some_piece (line_at s at) refl
 
-  pub part_closed : (behind m : ℕ) → NamesPassed s at (At behind m)
+  pub part_closed : (behind m : ℕ) → NamesPassed s at (Some (record { fields = behind; names = m }))
       → (pieces (line_at s at) ≡ piece_at s at ∷ pieces (line_at s behind)) × (length (piece_at s at) ≡ n + 1)
   part_closed behind m h = (first_piece_lem ∙ rw h.1, long)
     where
       long : length (piece_at s at) ≡ n + 1
       long = unfold piece_at in rw h.0 (omega (arith, length-append (field_at s at) (58 ∷ []), f))
 
-  pub part_open : NamesPassed s at NoColon → (pieces (line_at s at) ≡ piece_at s at ∷ pieces (line_at s next)) × (length (piece_at s at) ≡ n)
+  pub part_open : NamesPassed s at None → (pieces (line_at s at) ≡ piece_at s at ∷ pieces (line_at s next)) × (length (piece_at s at) ≡ n)
   part_open h = (first_piece_lem ∙ rw (past-none (line_at s at) h, rest), long)
     where
       long : length (piece_at s at) ≡ n
@@ -225,7 +225,7 @@ module _ (s : List ℕ) (reason : ℕ) (linked : Bool) (at : ℕ) where
   unfolding kept_from
   kept_bound = omega (arith, kept-closed-short linked reason 0 (pieces (line_at s at)), ap length (pieces-flat (line_at s at)), line_bound s at)
 
-  module _ (why : ℕ) (link : Bool) (n next : ℕ) (p : PartFound s at linked reason (SomePart why link n next)) where
+  module _ (why : ℕ) (link : Bool) (n next : ℕ) (p : PartFound s at linked reason (Some (record { reason = why; linked = link; count = n; next = next }))) where
     piece_reading : upto 58 (piece_at s at) ≡ field_at s at
     unfolding piece_at
     piece_reading = piece_text (holds 58 (line_at s at)) (line_at s at)

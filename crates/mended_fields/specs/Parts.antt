@@ -1,6 +1,6 @@
 -- What the functions answer, by the cases of their answers. `s` is the part of the database that starts after a line's names; a place is an
 -- index of it.
-use Rattle.std.specs.Prelude.{ℕ, ◌+◌, ◌≤◌, ◌<◌, ◌≡◌, Bool, true, false, List, [], ◌∷◌, ◌++◌, eqb, length}
+use Rattle.std.specs.Prelude.{ℕ, ◌≤◌, ◌<◌, ◌≡◌, Bool, true, false, List, [], ◌∷◌, ◌++◌, eqb, length, Option, Some, None}
 use Rattle.std.proofs.lemmas.List.Edits.{sets}
 use Rattle.spec.specs.Choice.{pick, either}
 use Rattle.spec.specs.Lists.{holds}
@@ -11,7 +11,6 @@ use Rattle.field_bounds.specs.Answers.{field_at}
 use Rattle.fields.specs.Readings.{Reads}
 use Rattle.fields.specs.declared.FieldRead.{FieldRead}
 use Rattle.mended_fields.specs.declared.NextPart.{NextPart}
-use Rattle.mended_fields.specs.declared.NextPart.TheVariants.{Nothing, Part}
 
 -- Bytes are stored in a buffer from a place on, and their count is answered.
 pub record Put (bytes out : List ℕ) (at : ℕ) (out' : List ℕ) (n : ℕ) : Type 0 where
@@ -36,11 +35,11 @@ abbrev pub LinkUpTo : Bool → FieldRead → Bool → Type 0
 LinkUpTo linked read r = (s : List ℕ) (at : ℕ) → Reads s at read → r ≡ either linked (is_link (reading (field_at s at)))
 
 -- `next_part`: the fields from a place on are none; or one that is removed for that reason, of so many bytes, and those from a place on.
-abbrev pub PartFound : List ℕ → ℕ → Bool → ℕ → NextPart → Type 0
-PartFound s at linked reason Nothing = pieces (line_at s at) ≡ []
-PartFound s at linked reason (Part why link n next) =
-    (pieces (line_at s at) ≡ piece_at s at ∷ pieces (line_at s next)) × (why ≡ field_reason linked reason (reading (field_at s at)))
-    × (link ≡ either linked (is_link (reading (field_at s at)))) × (length (piece_at s at) ≡ n) × (at < next) × (next ≤ length s)
+abbrev pub PartFound : List ℕ → ℕ → Bool → ℕ → Option NextPart → Type 0
+PartFound s at linked reason None = pieces (line_at s at) ≡ []
+PartFound s at linked reason (Some p) =
+    (pieces (line_at s at) ≡ piece_at s at ∷ pieces (line_at s p.next)) × (p.reason ≡ field_reason linked reason (reading (field_at s at)))
+    × (p.linked ≡ either linked (is_link (reading (field_at s at)))) × (length (piece_at s at) ≡ p.count) × (at < p.next) × (p.next ≤ length s)
 
 -- ---- what is written
 

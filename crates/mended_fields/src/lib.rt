@@ -11,12 +11,12 @@ ghost use Rattle.spec.specs.Repair.{ends_in_backslash, removal_record};
 ghost use Rattle.field_bounds.specs.Answers.{field_at};
 ghost use Rattle.mended_fields.specs.Parts.{piece_at, ReasonFor, LinkUpTo, PartFound, record_if, records_from, written_if, kept_from, Put};
 
-use field_bounds::{AfterNames, after_names, copy_field, field_byte};
-use fields::{FieldRead, NextField, next_field};
-use lines::Step;
-use stores::{put_after, put_bytes};
+use field_bounds::{after_names, copy_field, field_byte};
+use fields::{FieldRead, next_field};
+use stores::{four_bytes, put_after, put_bytes};
 
-// "Reasons are 1 to 5 for the five removals": a malformed field, and a field after the first link. 0 stands for what is kept.
+// "Reasons are 1 to 5 for the five removals": a malformed field, and a field after the first link. 0 stands for what is kept. They stay
+// numbers: the contracts of `record_fields` and `write_kept` speak of a reason, and of 0 for none, as the number that a record has.
 const KEPT: u8 = 0;
 
 const MALFORMED_FIELD: u8 = 2;
@@ -25,12 +25,13 @@ const AFTER_LINK: u8 = 3;
 
 pub const RECORD_SIZE: usize = 16;
 
-// The fields from a place on: none; or one with the reason for its removal, whether a link stands up to its end, its joined bytes with its
-// colon, and the place behind it.
+// A field with the reason for its removal, whether a link stands up to its end, its joined bytes with its colon, and the place behind it.
 #[derive(Clone, Copy)]
-pub enum NextPart {
-    Nothing,
-    Part(u8, bool, usize, usize),
+pub struct NextPart {
+    pub reason: u8,
+    pub linked: bool,
+    pub count: usize,
+    pub next: usize,
 }
 
 // ---- why a field is removed
@@ -42,18 +43,8 @@ fn field_reason(linked: bool, reason: u8, read: FieldRead) -> u8
     match read {
         FieldRead::Malformed => MALFORMED_FIELD,
         FieldRead::Ignored => KEPT,
-        FieldRead::Link(_) => {
-            if linked {
-                return AFTER_LINK;
-            }
-            reason
-        }
-        _ => {
-            if linked {
-                return AFTER_LINK;
-            }
-            KEPT
-        }
+        FieldRead::Link(_) => { if linked { AFTER_LINK } else { reason } }
+        _ => { if linked { AFTER_LINK } else { KEPT } }
     }
 }
 
@@ -61,23 +52,26 @@ fn field_reason(linked: bool, reason: u8, read: FieldRead) -> u8
 fn link_up_to(linked: bool, read: FieldRead) -> bool
     ensures { LinkUpTo linked read result }
 {
-    match read {
-        FieldRead::Link(_) => true,
-        _ => linked,
-    }
+    linked || matches!(read, FieldRead::Link(_))
 }
 
-fn next_part(s: &[u8], at: usize, linked: bool, reason: u8) -> NextPart
+fn next_part(s: &[u8], at: usize, linked: bool, reason: u8) -> Option<NextPart>
     ensures { PartFound s.now at linked reason result }
 {
-    let NextField::Field(read, n, next) = next_field(s, at) else {
-        return NextPart::Nothing;
+    let field = next_field(s, at)?;
+    let part = NextPart {
+        reason: field_reason(linked, reason, field.read),
+        linked: link_up_to(linked, field.read),
+        count: field.length,
+        next: field.next,
     };
-    let why = field_reason(linked, reason, read);
-    let link = link_up_to(linked, read);
     match after_names(s, at) {
-        AfterNames::At(behind, _) => NextPart::Part(why, link, n + 1, behind),
-        AfterNames::NoColon => NextPart::Part(why, link, n, next),
+        Some(behind) => Some(NextPart {
+            count: field.length + 1,
+            next: behind.fields,
+            ..part
+        }),
+        None => Some(part),
     }
 }
 
@@ -87,24 +81,11 @@ fn next_part(s: &[u8], at: usize, linked: bool, reason: u8) -> NextPart
 pub fn put_record(out: &mut [u8], at: usize, line: usize, place: usize, reason: usize, count: usize)
     ensures { out.new ≡ sets out.old at (removal_record line place reason count) }
 {
-    let record = [
-        (line / 16777216 % 256) as u8,
-        (line / 65536 % 256) as u8,
-        (line / 256 % 256) as u8,
-        (line % 256) as u8,
-        (place / 16777216 % 256) as u8,
-        (place / 65536 % 256) as u8,
-        (place / 256 % 256) as u8,
-        (place % 256) as u8,
-        (reason / 16777216 % 256) as u8,
-        (reason / 65536 % 256) as u8,
-        (reason / 256 % 256) as u8,
-        (reason % 256) as u8,
-        (count / 16777216 % 256) as u8,
-        (count / 65536 % 256) as u8,
-        (count / 256 % 256) as u8,
-        (count % 256) as u8,
-    ];
+    let mut record = [0u8; RECORD_SIZE];
+    put_bytes(&mut record, 0, &four_bytes(line as u64));
+    put_bytes(&mut record, 4, &four_bytes(place as u64));
+    put_bytes(&mut record, 8, &four_bytes(reason as u64));
+    put_bytes(&mut record, 12, &four_bytes(count as u64));
     put_bytes(out, at, &record);
 }
 
@@ -127,7 +108,8 @@ fn record_part(
 }
 
 // The records of the fields that are removed, to `records` from `from` on; the first field stands at `place` of the joined line. Answers
-// their bytes. What has no room is not stored.
+// their bytes. What has no room is not stored. A buffer and a place in it stay two arguments, here and below: each caller has the buffer lent
+// and lends it on, so a struct of both would be made and taken apart at each call, and the clauses would name its two fields.
 pub fn record_fields(
     s: &[u8],
     line: usize,
@@ -144,13 +126,13 @@ pub fn record_fields(
     let mut here = place;
     let mut n: usize = 0;
     loop {
-        let NextPart::Part(why, link, count, next) = next_part(s, at, linked, reason) else {
+        let Some(part) = next_part(s, at, linked, reason) else {
             return n;
         };
-        n += record_part(records, from + n, line, here, why, count);
-        here += count;
-        linked = link;
-        at = next;
+        n += record_part(records, from + n, line, here, part.reason, part.count);
+        here += part.count;
+        linked = part.linked;
+        at = part.next;
     }
 }
 
@@ -164,11 +146,11 @@ fn ends_in_backslash(s: &[u8], at: usize) -> bool
     let mut last = 0;
     loop {
         match field_byte(s, i) {
-            Step::Byte(b, n) => {
+            Some((b, n)) => {
                 last = b;
                 i = n;
             }
-            Step::End => return last == b'\\',
+            None => return last == b'\\',
         }
     }
 }
@@ -179,10 +161,7 @@ fn takes_colon(s: &[u8], at: usize, n: usize, count: usize) -> bool
     requires { (n ≡ length (field_at s.now at)) × (count ≡ length (piece_at s.now at)) }
     ensures { result ≡ either (holds 58 (line_at s.now at)) (ends_in_backslash (field_at s.now at)) }
 {
-    if n < count {
-        return true;
-    }
-    ends_in_backslash(s, at)
+    n < count || ends_in_backslash(s, at)
 }
 
 // Writes the field at a place, if it is kept. Answers the bytes written.
@@ -211,12 +190,12 @@ pub fn write_kept(s: &[u8], reason: u8, text: &mut [u8], to: usize) -> usize
     let mut linked = false;
     let mut n: usize = 0;
     loop {
-        let NextPart::Part(why, link, count, next) = next_part(s, at, linked, reason) else {
+        let Some(part) = next_part(s, at, linked, reason) else {
             put_after(text, to, n, b'\n');
             return n + 1;
         };
-        n += write_part(s, at, why, count, text, to + n);
-        linked = link;
-        at = next;
+        n += write_part(s, at, part.reason, part.count, text, to + n);
+        linked = part.linked;
+        at = part.next;
     }
 }

@@ -1,5 +1,6 @@
 -- A line and what Repair gives for it: its own bytes; its names and the fields that are kept; its records.
 -- Assumes nothing.
+use Rattle.std.specs.Prelude.{Some, None}
 use Prim.Native.Nat.{ℕ, ◌+◌, ◌*◌, ◌-◌, ◌/◌, ◌≤◌, ◌<◌}
 use mathlib.Core.Path.{◌≡◌, refl, ◌∙◌, ap, sym}
 use mathlib.Core.Bool.{Bool, true, false}
@@ -33,7 +34,6 @@ use Rattle.spec.specs.Repair.{
 use Rattle.laws.proofs.Tests.{clash}
 use Rattle.laws.proofs.Extents.{extent-inside}
 use Rattle.field_bounds.specs.Answers.{field_at, NamesPassed}
-use Rattle.field_bounds.specs.declared.AfterNames.TheVariants.{At, NoColon}
 use Rattle.field_bounds.proofs.Parts.{part, part_is, part_at}
 use Rattle.field_bounds.proofs.LineBounds.{field_bound}
 use Rattle.mended_fields.specs.Parts.{Put, records_from, kept_from}
@@ -83,7 +83,7 @@ field_nil l e = rw e
 pub part_short : (db : List ℕ) (a : ℕ) → length (part db a) ≤ length db
 part_short db a = omega (arith, ap length (part_is db a), length-drop a db)
 
-module _ (db : List ℕ) (at a n : ℕ) (p : NamesPassed db at (At a n)) where
+module _ (db : List ℕ) (at a n : ℕ) (p : NamesPassed db at (Some (record { fields = a; names = n }))) where
   part_pieces : pieces (line_at (part db a) 0) ≡ field_pieces (line_at db at)
   unfolding field_pieces
   part_pieces = ap pieces (part_at db at a n p 0 ∙ ap (line_at db) (add-zero a) ∙ sym p.1)
@@ -159,7 +159,7 @@ module _ (db : List ℕ) (at reason line : ℕ) where
     gives_ignored e text' n p = rw e (p.count, refl, p.stored, refl)
 
     module _ (e : is_ignored (line_at db at) ≡ false) where
-      pub gives_record : NamesPassed db at NoColon → (k : ℕ) → k ≡ length (field_at db at) → (records' : List ℕ)
+      pub gives_record : NamesPassed db at None → (k : ℕ) → k ≡ length (field_at db at) → (records' : List ℕ)
           → records' ≡ sets records from (removal_record line 0 1 k)
           → LineMended (mend_line db reason line here) text to text records from records' (record { bytes = 0; records = 1 })
       unfolding mend_line flattened
@@ -167,7 +167,7 @@ module _ (db : List ℕ) (at reason line : ℕ) where
           let whole : k ≡ length (line_at db at) = f ∙ ap length (upto-none (line_at db at) h) in
           rw (e, h, ← whole) (refl, refl, refl, s)
 
-      module _ (a n : ℕ) (p : NamesPassed db at (At a n)) (records' : List ℕ) (removed : ℕ)
+      module _ (a n : ℕ) (p : NamesPassed db at (Some (record { fields = a; names = n }))) (records' : List ℕ) (removed : ℕ)
           (q : Put (records_from (part db a) line reason false (n + 1) 0) records from records' removed) (text' : List ℕ) (m : ℕ) where
         count : removed ≡ 16 * length (part_records line fields)
         count = q.count ∙ ap length (records_are db at a n p line reason) ∙ records-length line fields

@@ -3,7 +3,7 @@ use Rattle.std.specs.Prelude.{ℕ, ◌-◌, ◌≤◌, ◌≡◌, List, ◌∷�
 use Rattle.std.proofs.lemmas.List.Edits.{sets}
 use Rattle.spec.specs.Fields.{names_of}
 use Rattle.spec.specs.Repair.{own_bytes, parts_of, kept_bytes, closed, Mended, flattened}
-use Rattle.mended_lines.specs.declared.Amounts.{Amounts}
+use Rattle.spec.specs.declared.Amounts.{Amounts}
 
 -- `after_line`: the line's own bytes stand up to the place that it answers.
 abbrev pub OwnEnd : List ℕ → ℕ → ℕ → Type 0

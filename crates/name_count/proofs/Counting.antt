@@ -16,7 +16,7 @@ use Rattle.spec.specs.Files.{file_at}
 use Rattle.spec.specs.Search.{split_names, line_names, names_in, file_names, all_names, counted, compared}
 use Rattle.laws.proofs.CountedNames.{among-append, compared-append}
 use Rattle.laws.proofs.WholeLines.{other_length}
-use Rattle.name_count.specs.declared.Tally.{Tally}
+use Rattle.spec.specs.declared.Tally.{Tally}
 use Rattle.name_count.specs.Tallies.{Fits, Tallied}
 
 -- ---- one name

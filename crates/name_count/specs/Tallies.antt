@@ -1,6 +1,6 @@
 -- What is counted of some names, one function after the other.
 use Rattle.std.specs.Prelude.{ℕ, ◌+◌, ◌<◌, ◌^◌, ◌≡◌, List}
-use Rattle.name_count.specs.declared.Tally.{Tally}
+use Rattle.spec.specs.declared.Tally.{Tally}
 use Rattle.spec.specs.Lists.{among}
 use Rattle.spec.specs.Search.{compared}
 

@@ -11,15 +11,10 @@ ghost use Rattle.name_count.specs.Tallies.{Fits, Tallied};
 
 use files::{are_good_ends, file};
 use identifiers::is_good_name;
-use lines::{Next, has_length, is_equal, is_ignored, next_line, next_name};
-use spec::{MOST_BYTES, Refusal, Searched};
+use lines::{has_length, is_equal, is_ignored, next_line, next_name};
+use spec::{MOST_BYTES, Refusal, Tally};
 
-// Whether the name was among some names, and how many were compared, with those before them.
-#[derive(Clone, Copy)]
-struct Tally {
-    found: bool,
-    compared: usize,
-}
+// A tally here is of some names, and counts those before them too.
 
 // The name at a place.
 fn count_name(s: &[u8], at: usize, name: &[u8], before: usize) -> Tally
@@ -52,8 +47,8 @@ fn count_names(s: &[u8], at: usize, name: &[u8], before: usize) -> Tally
         }
         n = t.compared;
         match next_name(s, i) {
-            Next::To(p) => i = p,
-            Next::Last => return Tally {
+            Some(p) => i = p,
+            None => return Tally {
                 found: false,
                 compared: n,
             },
@@ -89,8 +84,8 @@ fn count_file(s: &[u8], name: &[u8], before: usize) -> Tally
         }
         n = t.compared;
         match next_line(s, at) {
-            Next::To(p) => at = p,
-            Next::Last => return Tally {
+            Some(p) => at = p,
+            None => return Tally {
                 found: false,
                 compared: n,
             },
@@ -105,14 +100,12 @@ fn count_files(db: &[u8], ends: &[usize], name: &[u8]) -> Tally
     ensures { Tallied name.now (all_names (contents (files db.now ends.now))) 0 result }
 {
     let mut n = 0;
-    let mut k = 0u8;
-    while (k as usize) < ends.len() {
+    for k in 0..ends.len() as u8 {
         let t = count_file(file(db, ends, k), name, n);
         if t.found {
             return t;
         }
         n = t.compared;
-        k += 1;
     }
     Tally {
         found: false,
@@ -121,23 +114,18 @@ fn count_files(db: &[u8], ends: &[usize], name: &[u8]) -> Tally
 }
 
 // Refusals 16, 1 and 3, then the count. A name that is not found is an answer.
-pub fn search(db: &[u8], ends: &[usize], name: &[u8]) -> Searched
+pub fn search(db: &[u8], ends: &[usize], name: &[u8]) -> Result<Tally, Refusal>
     ensures { (result ≡ search_answer (files db.now ends.now) name.now)
         × (searched_report result ≡ search_report (files db.now ends.now) name.now) }
 {
     if !are_good_ends(db, ends) {
-        return Searched::Refused(Refusal::BadEnds);
+        return Err(Refusal::BadEnds);
     }
     if !is_good_name(name) {
-        return Searched::Refused(Refusal::BadName);
+        return Err(Refusal::BadName);
     }
     if db.len() > MOST_BYTES {
-        return Searched::Refused(Refusal::DatabaseTooLarge);
+        return Err(Refusal::DatabaseTooLarge);
     }
-    let t = count_files(db, ends, name);
-    let n = t.compared;
-    if t.found {
-        return Searched::Found(n);
-    }
-    Searched::Missing(n)
+    Ok(count_files(db, ends, name))
 }

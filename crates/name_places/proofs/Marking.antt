@@ -1,33 +1,30 @@
 -- Sixteen places at once: the marks of their names, the measure of one name, and what they settle.
 -- Assumes nothing.
 use Prim.Native.Nat.{ℕ, ◌+◌, ◌-◌, ◌≤◌, ◌<◌}
-use mathlib.Core.Path.{◌≡◌, refl, ◌∙◌}
-use mathlib.Core.Bool.{Bool, true, false, not, ◌&&◌, ◌||◌, true≢false}
+use mathlib.Core.Path.{◌≡◌, refl}
+use mathlib.Core.Bool.{Bool, true, false}
 use mathlib.Core.List.{List}
 use mathlib.Core.Logic.{◌⊎◌, inl, inr, ⊎_elim}
 use native.Mathlib.Omega.{arith}
-use borrow.Author.Tests.{eq-eqb, eqb-true, eqb-false, leb-false}
-use lib.Dec.{eqb, leb}
+use borrow.Author.Tests.{eqb-true, eqb-false}
+use Rattle.std.specs.Ordering.{nat_cmp, ord_max}
+use Rattle.std.proofs.lemmas.Bool.Decides.{nat_tests}
+use lib.Dec.{eqb}
 use lib.ListN.{length, get_or}
-use Rattle.name_places.specs.Marks.{Separator, Alone, Ending, Stop, Spelled, Whole, Fits, Settled, AllSettled, mark_of, Marked, Measured, pick_of}
+use Rattle.name_places.specs.Marks.{Separator, Alone, Ending, Stop, Spelled, Whole, Fits, Settled, AllSettled, mark_of, Marked, Measured}
 
 -- ---- the marks
 
-pub marked-none : (s n : List ℕ) (a : ℕ) → Marked s n a 0 0 0
-marked-none s n a =
-    record {
-      uncut = λ h j g. absurd (omega arith);
-      upto = λ j g. absurd (omega arith);
-      from = λ j g. absurd (omega arith);
-      separator = inl refl;
-      highest = inl (omega arith);
-      lowest = omega arith;
-    }
+-- `max` of two of them
+pub higher : {a b r : ℕ} → r ≡ ord_max nat_cmp a b → (a ≤ r) × (b ≤ r) × ((r ≡ a) ⊎ (r ≡ b))
+higher e = grind (arith, nat_tests)
 
 -- one place more, by the tests of it
 module _ (s n : List ℕ) (a k : ℕ) (fits cut : Bool) (low-k : k < 16) (near : a + k + 3 + length n < length s) where
   abbrev Unfit : Type 0
-  Unfit = fits ≡ false → Separator (get_or s (a + k + 2) 0) → Alone (get_or s (a + k + 1) 0) (get_or s (a + k + 2) 0) → Stop (get_or s (a + k + 3 + length n) 0) → ⊥
+  Unfit =
+      fits ≡ false → Separator (get_or s (a + k + 2) 0) → Alone (get_or s (a + k + 1) 0) (get_or s (a + k + 2) 0)
+      → Stop (get_or s (a + k + 3 + length n) 0) → ⊥
 
   abbrev Uncut : Type 0
   Uncut = get_or s (a + k + 2) 0 ≡ 10 → get_or s (a + k + 1) 0 ≡ 92 → (get_or s (a + k) 0 ≡ 58 → ⊥) → ⊥
@@ -114,46 +111,6 @@ pub record Far (s : List ℕ) (p k far : ℕ) : Type 0 where
   pub none : (j : ℕ) → j < k → Ending (get_or s (p + j) 0) → 32 ≤ far + j
   pub ends : (far ≡ 0) ⊎ Ending (get_or s (p + (32 - far)) 0)
 
-pub far_none : (s : List ℕ) (p : ℕ) → Far s p 0 0
-far_none s p = record { most = omega arith; none = λ j h. absurd (omega arith); ends = inl refl }
-
-pub far_more :
-    (s : List ℕ) (p k : ℕ) (ending : Bool) {far far' m : ℕ} → k < 32 → Far s p k far → (ending ≡ true → Ending (get_or s (p + k) 0)) →
-    (ending ≡ false → Ending (get_or s (p + k) 0) → ⊥)
-    → m ≡ mark_of false ending (32 - k) → far ≤ far' → m ≤ far' → (far' ≡ far) ⊎ (far' ≡ m) → Far s p (k + 1) far'
-far_more s p k ending {far} {far'} {m} low x f g e h i q =
-    record {
-      most = ⊎_elim (λ w. let z = x.most in omega arith) (λ w. most ending (rw e at w)) q;
-      none = λ j v w. none j v w (eqb j k) refl;
-      ends = ⊎_elim (λ w. rw w x.ends) (λ w. ends ending refl (rw e at w)) q;
-    }
-  where
-    most : (y : Bool) → far' ≡ mark_of false y (32 - k) → far' ≤ 32
-    most true w = omega arith
-    most false w = omega arith
-
-    none : (j : ℕ) → j < k + 1 → Ending (get_or s (p + j) 0) → (y : Bool) → eqb j k ≡ y → 32 ≤ far' + j
-    none j v w true y = go ending refl
-      where
-        go : (b : Bool) → ending ≡ b → 32 ≤ far' + j
-        go true b =
-            let z = eqb-true j k y in
-            let t : m ≡ 32 - k = rw b at e in
-            omega arith
-        go false b =
-            let z = eqb-true j k y in
-            absurd (g b (rw z at w))
-    none j v w false y =
-        let z = eqb-false j k y in
-        let t = x.none j (omega arith) w in
-        omega arith
-
-    ends : (y : Bool) → ending ≡ y → far' ≡ mark_of false y (32 - k) → (far' ≡ 0) ⊎ Ending (get_or s (p + (32 - far')) 0)
-    ends true v w =
-        let same : 32 - far' ≡ k = omega arith in
-        inr (rw same (f v))
-    ends false v w = inl w
-
 pub measured : (s : List ℕ) (p far : ℕ) → Far s p 32 far → Measured s p (32 - far)
 measured s p far x =
     record {
@@ -167,32 +124,6 @@ measured s p far x =
         let same : i ≡ p + (i - p) = omega arith in
         let t = x.none (i - p) (omega arith) (rw same at w) in
         omega arith
-
--- ---- a name that is not the asked one
-
-pub too_short : (s : List ℕ) (p r d : ℕ) → Measured s p r → leb d r ≡ false → d ≤ 32 → Whole s p (p + d) → ⊥
-too_short s p r d x e g z = let h = leb-false d r e in z.holds (p + r) (omega arith) (omega arith) (x.ends (omega arith))
-
-pub picked_below : (held : Bool) (x y : ℕ) {m r : ℕ} → r ≡ pick_of held x y → x < m → y < m → r < m
-picked_below true x y e h g = omega arith
-picked_below false x y e h g = omega arith
-
-both-same : (a b c d : ℕ) → (eqb a b && eqb c d) ≡ false → a ≡ b → c ≡ d → ⊥
-both-same a b c d e f g = true≢false (rw (eq-eqb a b f, eq-eqb c d g) at e)
-
--- by the bytes at the places i and j, which are the name's ends if it is long enough and has no backslash at its end
-pub unlike :
-    (s n : List ℕ) (p i j : ℕ) (whole pair : Bool) → 0 < length n
-    → (whole ≡ false → Whole s p (p + length n) → ⊥)
-    → i ≡ pick_of (whole && not pair) p (p - 1) → j ≡ pick_of (whole && not pair) (p + length n - 1) (p - 1)
-    → ((whole && pair) || (eqb (get_or s i 0) (get_or n 0 0) && eqb (get_or s j 0) (get_or n (length n - 1) 0))) ≡ false
-    → Spelled s n p → Whole s p (p + length n) → ⊥
-unlike s n p i j false pair some x e f h y z = x refl z
-unlike s n p i j true true some x e f h y z = true≢false h
-unlike s n p i j true false some x e f h y z =
-    let first : i ≡ p + 0 = e ∙ omega arith in
-    let last : j ≡ p + (length n - 1) = f ∙ omega arith in
-    both-same (get_or s i 0) (get_or n 0 0) (get_or s j 0) (get_or n (length n - 1) 0) h (rw first (y 0 some)) (rw last (y (length n - 1) (omega arith)))
 
 -- ---- the last of the marked places is the only one that matters
 

@@ -1,15 +1,14 @@
--- The laws of the tests of a place, of what holds of each place of a range, and of places passed over.
+-- Laws of tests that are joined by "or", of what holds of each place of a range, and of places passed over.
 -- Assumes nothing.
 use Prim.Native.Nat.{ℕ, ◌+◌, ◌≤◌, ◌<◌}
-use mathlib.Core.Path.{◌≡◌, refl, sym}
-use mathlib.Core.Bool.{Bool, true, false, ◌&&◌, ◌||◌, true≢false}
+use mathlib.Core.Path.{◌≡◌, refl}
+use mathlib.Core.Bool.{Bool, true, false, ◌||◌, true≢false}
 use mathlib.Core.List.{List}
-use mathlib.Core.Logic.{inl, inr}
 use native.Mathlib.Omega.{arith}
 use borrow.Author.Tests.{eqb-true, eqb-false, ltb-true, ltb-false}
 use lib.Dec.{eqb, ltb}
 use lib.ListN.{length}
-use Rattle.name_places.specs.Marks.{Separator, Ending, Each, Passed}
+use Rattle.name_places.specs.Marks.{Each, Passed}
 
 pub or_left : (x y : Bool) → (x || y) ≡ false → x ≡ false
 or_left true y e = e
@@ -18,34 +17,6 @@ or_left false y e = refl
 pub or_right : (x y : Bool) → (x || y) ≡ false → y ≡ false
 or_right true y e = absurd (true≢false e)
 or_right false y e = e
-
--- ---- the tests of a place
-
-and_left : (x y : Bool) → (x && y) ≡ true → x ≡ true
-and_left true y e = refl
-and_left false y e = e
-
-pub is_separator : (b : ℕ) (y z : Bool) → ((eqb b 124 || (eqb b 10 && y)) && z) ≡ true → Separator b
-is_separator b y z e = go (eqb b 124) (eqb b 10) refl refl (and_left _ z e)
-  where
-    go : (u v : Bool) → eqb b 124 ≡ u → eqb b 10 ≡ v → (u || (v && y)) ≡ true → Separator b
-    go true v f g h = inr (eqb-true b 124 f)
-    go false true f g h = inl (eqb-true b 10 g)
-    go false false f g h = absurd (true≢false (sym h))
-
-pub ending_true : (b : ℕ) → ((eqb b 10 || eqb b 58) || eqb b 124) ≡ true → Ending b
-ending_true b e = go (eqb b 10) (eqb b 58) (eqb b 124) refl refl refl e
-  where
-    go : (x y z : Bool) → eqb b 10 ≡ x → eqb b 58 ≡ y → eqb b 124 ≡ z → ((x || y) || z) ≡ true → Ending b
-    go true y z u v w h = inl (eqb-true b 10 u)
-    go false true z u v w h = inr (inl (eqb-true b 58 v))
-    go false false true u v w h = inr (inr (eqb-true b 124 w))
-    go false false false u v w h = absurd (true≢false (sym h))
-
-pub ending_false : (b : ℕ) → ((eqb b 10 || eqb b 58) || eqb b 124) ≡ false → Ending b → ⊥
-ending_false b e (inl x) = true≢false (rw x at e)
-ending_false b e (inr (inl x)) = true≢false (rw x at e)
-ending_false b e (inr (inr x)) = true≢false (rw x at e)
 
 -- ---- each place of a range
 

@@ -88,8 +88,3 @@ pub record Measured (s : List ℕ) (p r : ℕ) : Type 0 where
   pub most : r ≤ 32
   pub whole : Whole s p (p + r)
   pub ends : r < 32 → Ending (get_or s (p + r) 0)
-
--- The place where a byte is looked at: one, or another.
-abbrev pub pick_of : Bool → ℕ → ℕ → ℕ
-pick_of true place other = place
-pick_of false place other = other

@@ -1,6 +1,7 @@
 -- Lists of blocks: the laws of `Listed`, and what they say of the places before a block.
 -- Assumes nothing.
-use Rattle.std.proofs.Common.{◌≡◌, ℕ, zero, suc, ◌+◌, ◌-◌, ◌*◌, ◌<◌, ◌≤◌, Bool, true, false, eqb, ltb, ◌⊎◌, List, length, get_or, set, sym, refl, ◌∙◌, inl, inr, ⊎_elim, arith, get_or-set_other, get_or-set_same, ltb-false, ltb-true, eqb-true}
+use Rattle.std.proofs.Common.{◌≡◌, ℕ, zero, suc, ◌+◌, ◌-◌, ◌*◌, ◌<◌, ◌≤◌, Bool, true, false, eqb, ltb, ◌⊎◌, List, length, get_or, set, sym, refl, ◌∙◌}
+use Rattle.std.proofs.Common.{inl, inr, ⊎_elim, arith, get_or-set_other, get_or-set_same, ltb-false, ltb-true, eqb-true}
 use borrow.Author.Tests.{eqb-false}
 use Rattle.name_places.specs.Marks.{AllSettled}
 use Rattle.name_scan.specs.Blocks.{Listed, counted, StartsListed, BlocksListed, Plain}
@@ -8,9 +9,6 @@ use Rattle.name_places.proofs.Places.{each_none, each_to, each_in, each_join}
 use Rattle.name_scan.proofs.Starts.{settled_startless}
 
 module _ {F : ℕ → Type 0} {l : List ℕ} where
-  pub listed-none : Listed F l 0 0
-  listed-none = record { few = omega arith; below = λ c h. absurd (omega arith); rising = λ c d g h. absurd (omega arith); all = λ j h. absurd (omega arith) }
-
   module _ {n k : ℕ} (x : Listed F l n k) where
     -- what is free by another measure
     pub listed_as : {G : ℕ → Type 0} → ((j : ℕ) → j < k → F j → G j) → Listed G l n k
@@ -141,9 +139,6 @@ module _ {s n : List ℕ} (a : ℕ) {blocks : List ℕ} {count k : ℕ} (x : Blo
           let z = eqb-false c d y in
           let w = x.rising c d (omega arith) g in
           omega arith
-
-  pub reached-none : Reached blocks 0 count 0
-  reached-none = record { done = λ d h. absurd (omega arith); ahead = λ d h g. omega arith }
 
   pub reached_more : {c e : ℕ} → Reached blocks c count e → c < count → Reached blocks (c + 1) count (get_or blocks c 0 + 1)
   reached_more {c = c} r h = record { done = λ d g. go d g (eqb d c) refl; ahead = λ d g i. let w = x.rising c d (omega arith) i in omega arith }

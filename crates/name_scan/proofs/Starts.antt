@@ -1,24 +1,9 @@
 -- Places that are settled because no plain name starts there, or none can have the asked length.
 -- Assumes nothing.
-use Rattle.std.proofs.Common.{◌≡◌, ℕ, ◌+◌, ◌-◌, ◌<◌, ◌≤◌, Bool, true, false, ◌&&◌, ◌||◌, ltb, leb, List, length, get_or, sym, refl, inl, inr, ⊎_elim, true≢false, arith, lt-ltb, le-leb}
+use Rattle.std.proofs.Common.{◌≡◌, ℕ, ◌+◌, ◌-◌, ◌<◌, ◌≤◌, Bool, true, false, ◌&&◌, ◌||◌, List, length, get_or, sym, refl, inl, inr, ⊎_elim, arith}
 use Rattle.name_places.specs.Marks.{Separator, Alone, Stop, Spelled, Inside, Settled, AllSettled}
 use Rattle.name_places.proofs.Places.{or_left, or_right}
 use Rattle.name_scan.specs.Blocks.{Start, Startless, Plain}
-
-pub not_within : (a b l : ℕ) → (leb a l && ltb l b) ≡ false → a ≤ l → l < b → ⊥
-not_within a b l e x y = true≢false (rw (le-leb a l x, lt-ltb l b y) at e)
-
-pub not_start :
-    (b c : ℕ) {l : ℕ} (high : Bool)
-    → (high ≡ false → 117 ≤ l → l < 128 → ⊥)
-    → (b ≡ 10 → l ≡ 127)
-    → (b ≡ 124 → l ≡ 117)
-    → (high && (leb 36 c && ltb c 128)) ≡ false
-    → Start b c
-    → ⊥
-not_start b c true h newline bar e x = true≢false (rw (le-leb 36 c x.1, lt-ltb c 128 x.2) at e)
-not_start b c {l} false h newline bar e x = ⊎_elim (λ y. let z = newline y in h refl (omega arith) (omega arith))
-    (λ y. let z = bar y in h refl (omega arith) (omega arith)) x.0
 
 -- ---- a place is settled
 

@@ -1,5 +1,6 @@
 -- The end of a line: a newline that no backslash takes away, or the end of the database. The later lines are those behind it.
 -- Assumes nothing.
+use Rattle.std.specs.Prelude.{None}
 use Prim.Native.Nat.{ℕ, zero, suc, ◌+◌, ◌≤◌, ◌<◌}
 use mathlib.Core.Path.{◌≡◌, refl, ◌∙◌, ap, sym}
 use mathlib.Core.Bool.{Bool, true, false}
@@ -8,7 +9,6 @@ use native.Mathlib.Omega.{arith}
 use borrow.Author.Tests.{eqb-true, eqb-false}
 use lib.Dec.{eqb}
 use lib.ListN.{length, get_or}
-use Rattle.spec.specs.declared.Found.TheVariants.{Nothing}
 use Rattle.spec.specs.Lines.{byte, text_at, later_lines, lines_from, find, extent}
 use Rattle.laws.proofs.TextSteps as Laws
 use Rattle.laws.proofs.Extents.{extent-end, extent-newline, extent_on}
@@ -76,7 +76,7 @@ end_of s i m apart = end-to s (length s + 1) i m (omega arith) apart
 
 -- ---- the lines behind the end of the database, and behind a newline that ends a line
 
-pub none-behind : (s n : List ℕ) → find n (later_lines (text_at s (length s))) ≡ Nothing
+pub none-behind : (s n : List ℕ) → find n (later_lines (text_at s (length s))) ≡ None
 unfolding find
 none-behind s n = rw (Laws.text-end s (length s) (omega arith), Laws.lines_end)
 

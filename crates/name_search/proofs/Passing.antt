@@ -1,5 +1,6 @@
 -- Lines are passed over as a whole: where each place up to the end of a line is settled, no line up to there has the name.
 -- Assumes nothing.
+use Rattle.std.specs.Prelude.{None}
 use Prim.Native.Nat.{ℕ, zero, suc, ◌+◌, ◌-◌, ◌≤◌, ◌<◌}
 use mathlib.Core.Path.{◌≡◌, refl, ◌∙◌, ap, sym}
 use mathlib.Core.Bool.{Bool, true, false}
@@ -9,7 +10,6 @@ use native.Mathlib.Omega.{arith}
 use borrow.Author.Tests.{eqb-true, eqb-false, ltb-true, ltb-false}
 use lib.Dec.{eqb, ltb}
 use lib.ListN.{length, get_or}
-use Rattle.spec.specs.declared.Found.TheVariants.{Nothing}
 use Rattle.spec.specs.Lines.{Text, byte, text_at, line_text, later_lines, first_name, later_names, find}
 use Rattle.spec.specs.Lists.{upto, later_pieces, same, among}
 use Rattle.laws.proofs.TextSteps as Laws
@@ -227,8 +227,9 @@ module _ {s n : List ℕ} {a b e : ℕ} (settled : AllSettled s n a b) (inside :
           let z : ◌≡◌ {A = ℕ} 10 92 = sym x.1 ∙ sym (ap (λ (j : ℕ). get_or s j 0) same) ∙ p.0 in
           omega arith
 
-      at_byte : i < e → (Pair s i → ⊥) → (x : Bool) → eqb (get_or s i 0) 10 ≡ x → find n (later_lines (byte (get_or s i 0) (i + 1) (text_at s (i + 1)))) ≡ find n
-          (later_lines (text_at s e))
+      at_byte :
+          i < e → (Pair s i → ⊥) → (x : Bool) → eqb (get_or s i 0) 10 ≡ x
+          → find n (later_lines (byte (get_or s i 0) (i + 1) (text_at s (i + 1)))) ≡ find n (later_lines (text_at s e))
       at_byte p y true x =
           let none = Laws.among_next _ _ _ (other_at i h p (inl (eqb-true _ _ x)) alone) ∙ others (e + 1) (i + 1) (omega arith) (omega arith) (omega arith) in
           ap (find n) (Laws.lines_cut _ _ _ (eqb-true _ _ x)) ∙ Laws.find_on n (i + 1) (text_at s (i + 1)) none ∙ more (i + 1) (omega arith) (omega arith)
@@ -279,5 +280,5 @@ module _ {s n : List ℕ} {end b : ℕ} (low : 2 ≤ end) (closes : Closes s end
             passed = rw z (passed settled (omega arith) (λ y. w.3) (omega arith) end (omega arith) v apart ∙ next-behind s n f (omega arith) w.3);
           }
 
-  pub passed-all : end ≤ length s → length s ≤ b + 2 → find n (later_lines (text_at s end)) ≡ Nothing
+  pub passed-all : end ≤ length s → length s ≤ b + 2 → find n (later_lines (text_at s end)) ≡ None
   passed-all h l = passed settled (omega arith) (λ x. absurd (omega arith)) l end (omega arith) h apart ∙ none-behind s n

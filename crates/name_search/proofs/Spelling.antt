@@ -52,8 +52,9 @@ module _ (s n : List ℕ) (i p : ℕ) where
   pub begins : i < length n → Stands → Begins
   begins h x = go (look s p)
     where
-      at_byte : text_at s p ≡ byte (get_or s p 0) (p + 1) (text_at s (p + 1)) → Ending (get_or s p 0) ⊎ (Ending (get_or s p 0) → ⊥) → (y : Bool) → eqb (get_or n i 0)
-          (get_or s p 0) ≡ y → Begins
+      at_byte :
+          text_at s p ≡ byte (get_or s p 0) (p + 1) (text_at s (p + 1)) → Ending (get_or s p 0) ⊎ (Ending (get_or s p 0) → ⊥)
+          → (y : Bool) → eqb (get_or n i 0) (get_or s p 0) ≡ y → Begins
       at_byte t (inl f) y e = absurd (some_left h x (ap (λ (q : Text). first_name (line_text q)) t ∙ Laws.name-end _ _ _ f))
       at_byte t (inr f) true e =
           let on = ap (λ (q : Text). first_name (line_text q)) t ∙ Laws.name_on _ _ _ f in

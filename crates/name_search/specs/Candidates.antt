@@ -1,9 +1,6 @@
 -- Lines that may have the asked name, and what the functions of the search answer of them.
-use Rattle.std.specs.Prelude.{ℕ, ◌+◌, ◌≤◌, ◌≡◌, List, length, get_or}
-use Rattle.spec.specs.declared.Found.TheVariants.{Nothing}
+use Rattle.std.specs.Prelude.{ℕ, ◌+◌, ◌≤◌, ◌≡◌, List, length, get_or, Option, Some, None}
 use Rattle.spec.specs.Lines.{text_at, later_lines, lines_from, find}
-use Rattle.lines.specs.declared.Next.{Next}
-use Rattle.lines.specs.declared.Next.TheVariants.{To, Last}
 
 -- At the place e stands a newline that ends a line.
 pub record Closes (s : List ℕ) (e : ℕ) : Type 0 where
@@ -21,6 +18,6 @@ pub record Candidate (s n : List ℕ) (e r : ℕ) : Type 0 where
   pub starts : (f : ℕ) × (r ≡ f + 1) × (e ≤ f) × Closes s f
   pub passed : find n (later_lines (text_at s e)) ≡ find n (lines_from r (text_at s r))
 
-abbrev pub NextCandidate : List ℕ → List ℕ → ℕ → Next → Type 0
-NextCandidate s n e (To r) = Candidate s n e r
-NextCandidate s n e Last = find n (later_lines (text_at s e)) ≡ Nothing
+abbrev pub NextCandidate : List ℕ → List ℕ → ℕ → Option ℕ → Type 0
+NextCandidate s n e (Some r) = Candidate s n e r
+NextCandidate s n e None = find n (later_lines (text_at s e)) ≡ None

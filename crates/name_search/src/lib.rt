@@ -6,9 +6,8 @@ ghost use Rattle.std.specs.Prelude.{◌≤◌, ◌<◌, ◌≡◌, length};
 ghost use Rattle.spec.specs.Lines.{find_line};
 ghost use Rattle.name_search.specs.Candidates.{Closes, LineOf, NextCandidate};
 
-use lines::{Next, is_ignored, is_name, line_end, next_name};
+use lines::{is_ignored, is_name, line_end, next_name};
 use name_scan::{BLOCKS, PARTS, next_hit};
-use spec::Found;
 
 // A database of fewer bytes is searched without the scan's lists: to clear them would cost more than they save.
 const LISTED: usize = 2048;
@@ -20,45 +19,44 @@ fn line_of(s: &[u8], end: usize, at: usize) -> usize
     requires closes { Closes s.now end }
     ensures { LineOf s.now end at result }
 {
-    let mut i = at;
-    while i - end > 1 {
-        if s[i - 1] == b'\n' {
-            if s[i - 2] != b'\\' {
-                return i;
-            }
+    for i in (end + 1..at).rev() {
+        if s[i] == b'\n' && s[i - 1] != b'\\' {
+            return i + 1;
         }
-        i -= 1;
     }
-    i
+    end + 1
 }
 
 // Where a line starts, behind the line that ends at `end`, such that no line between the two has the name. An empty name has no byte to
 // look for, and before the third byte there are no two: each line may have it.
-fn next_candidate(s: &[u8], end: usize, name: &[u8], blocks: &mut [u16], parts: &mut [u16]) -> Next
+fn next_candidate(
+    s: &[u8],
+    end: usize,
+    name: &[u8],
+    blocks: &mut [u16],
+    parts: &mut [u16],
+) -> Option<usize>
     requires end_in_bounds { end ≤ length s.now }
     requires closes { end < length s.now → Closes s.now end }
     ensures { NextCandidate s.now name.now end result }
 {
     let len = s.len();
     if end == len {
-        return Next::Last;
+        return None;
     }
-    if end < 2 {
-        return Next::To(end + 1);
-    }
-    if name.len() == 0 {
-        return Next::To(end + 1);
+    if end < 2 || name.is_empty() {
+        return Some(end + 1);
     }
     let at = next_hit(s, end - 2, name, blocks, parts);
     if len - at > 2 {
-        return Next::To(line_of(s, end, at + 3));
+        return Some(line_of(s, end, at + 3));
     }
-    Next::Last
+    None
 }
 
 // Where the first line starts that is not ignored and that has the name: lines in the outer loop, names in the inner one. The outer loop
 // goes from candidate to candidate; the lists are for the scan.
-fn search_lines(db: &[u8], name: &[u8], blocks: &mut [u16], parts: &mut [u16]) -> Found
+fn search_lines(db: &[u8], name: &[u8], blocks: &mut [u16], parts: &mut [u16]) -> Option<usize>
     ensures { result ≡ find_line db.now name.now }
 {
     let mut at = 0;
@@ -67,23 +65,23 @@ fn search_lines(db: &[u8], name: &[u8], blocks: &mut [u16], parts: &mut [u16]) -
             let mut p = at;
             loop {
                 if is_name(db, p, name) {
-                    break 'lines Found::At(at);
+                    break 'lines Some(at);
                 }
                 match next_name(db, p) {
-                    Next::To(n) => p = n,
-                    Next::Last => break,
+                    Some(n) => p = n,
+                    None => break,
                 }
             }
         }
         match next_candidate(db, line_end(db, at), name, blocks, parts) {
-            Next::To(n) => at = n,
-            Next::Last => break Found::Nothing,
+            Some(n) => at = n,
+            None => break None,
         }
     }
 }
 
 // Where the first line starts that is not ignored and that has the name.
-pub fn find_line(db: &[u8], name: &[u8]) -> Found
+pub fn find_line(db: &[u8], name: &[u8]) -> Option<usize>
     ensures { result ≡ find_line db.now name.now }
 {
     if db.len() < LISTED {

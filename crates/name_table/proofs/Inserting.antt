@@ -1,47 +1,29 @@
--- Putting a number into the list: what moves up while `insert` goes down, and the bounds of the list afterwards.
+-- Putting a number into the list, and the bounds of the list afterwards.
 -- Assumes nothing.
 use Prim.Native.Nat.{ℕ, zero, suc, ◌+◌, ◌-◌, ◌≤◌, ◌<◌}
-use mathlib.Core.Path.{◌≡◌, refl, ◌∙◌, sym}
+use mathlib.Core.Path.{◌≡◌, refl, ◌∙◌}
 use mathlib.Core.List.{List, [], ◌∷◌, ◌++◌}
 use native.Mathlib.Numerals.{add-one}
 use native.Mathlib.Omega.{arith}
 use borrow.Author.Tests.{lt-ltb, le-ltb}
-use lib.ListN.{length, take, drop, get_or, set, take-append-drop, get_or-append}
-use lib.Seq.{slice, slice_empty, slice-cons, take-suc, set_at, append_snoc, length-take-le, get_or-take, get_or-drop}
+use lib.ListN.{length, take, drop, get_or, set}
+use Rattle.std.specs.List.{copy_within}
+use Rattle.std.proofs.Common.{append_assoc}
+use Rattle.std.proofs.lemmas.Slice.{between_is}
+use lib.Seq.{slice, take-suc, set_at, append_snoc, length-take-le, get_or-drop}
 use Rattle.name_table.specs.Table.{AtMost, Table, text_of, place_in, slot_of, inserted, listed, listing, Lists}
 
--- The list after the numbers from the place i on, of the first `count`, have moved up: the one at i stands twice.
-unfoldable pub moved : List ℕ → ℕ → ℕ → List ℕ
-moved l count i = take (i + 1) l ++ (slice i count l ++ drop (count + 1) l)
-
-pub moved_none : (l : List ℕ) (count : ℕ) → l ≡ moved l count count
-unfolding moved
-moved_none l count = rw (slice_empty count l) (sym (take-append-drop (count + 1) l))
-
-module _ (l : List ℕ) (count i : ℕ) (room : count < length l) (inside : i ≤ count) where
-  pub moved-put : (v : ℕ) → set (moved l count i) i v ≡ inserted l count i v
-  unfolding moved inserted
-  moved-put v =
-      let here : i < length l = omega arith in
-      let whole : i ≤ length l = omega arith in
-      rw (add-one i, take-suc l i 0 here, append_snoc (take i l) (get_or l i 0) (slice i count l ++ drop (count + 1) l))
-      (set_at (take i l) (get_or l i 0) (slice i count l ++ drop (count + 1) l) v i (length-take-le i l whole))
-
-module _ (l : List ℕ) (count i : ℕ) (room : count < length l) (inside : i < count) where
-  moved_down : inserted l count (i + 1) (get_or l i 0) ≡ moved l count i
-  unfolding moved inserted
-  moved_down = let whole : count ≤ length l = omega arith in rw (slice-cons i count l 0 inside whole, add-one i)
-
-  moved_front : get_or (moved l count (i + 1)) i 0 ≡ get_or l i 0
-  unfolding moved
-  moved_front =
-      let here : i < i + 1 + 1 = omega arith in
-      let whole : i + 1 + 1 ≤ length l = omega arith in
-      let front : i < length (take (i + 1 + 1) l) = rw (length-take-le (i + 1 + 1) l whole) here in
-      get_or-append (take (i + 1 + 1) l) (slice (i + 1) count l ++ drop (count + 1) l) 0 i front ∙ get_or-take (i + 1 + 1) l i 0 here
-
-  pub moved_up : (k : ℕ) → k ≡ i + 1 → set (moved l count k) k (get_or (moved l count k) i 0) ≡ moved l count i
-  moved_up k e = let above : i + 1 ≤ count = omega arith in rw (e, moved_front) (moved-put l count (i + 1) room above (get_or l i 0) ∙ moved_down)
+-- What stands from a place on, of the first `count`, moved up by one, and a number put there.
+pub inserted_is : (l : List ℕ) (count at : ℕ) → count < length l → at ≤ count
+    → (new : List ℕ) (j : ℕ) → new ≡ copy_within l at count (at + 1) → set new at j ≡ inserted l count at j
+unfolding inserted
+inserted_is l count at room inside new j e =
+    let here : at < length l = omega arith in
+    let whole : at ≤ length l = omega arith in
+    let behind : at + 1 + (count - at) ≡ count + 1 = omega arith in
+    let moved = slice at count l ++ drop (count + 1) l in
+    rw (e, between_is l at count, behind, append_assoc, add-one at, take-suc l at 0 here, append_snoc (take at l) (get_or l at 0) moved)
+    (set_at (take at l) (get_or l at 0) moved j at (length-take-le at l whole))
 
 module _ (most : ℕ) where
   at-most-append : (a b : List ℕ) → ((i : ℕ) → get_or a i 0 ≤ most) → ((i : ℕ) → get_or b i 0 ≤ most) → (i : ℕ) → get_or (a ++ b) i 0 ≤ most

@@ -4,9 +4,7 @@
 #![tactic(auto)]
 
 ghost use Rattle.std.specs.Prelude.{◌+◌, ◌*◌, ◌-◌, ◌≤◌, ◌<◌, ◌≡◌, length};
-ghost use Rattle.name_table.specs.Table.{Table, AtMost, text_of, before, place_in, slot_of, inserted, listed, listing, Lists};
-
-use check::same;
+ghost use Rattle.name_table.specs.Table.{Table, AtMost, text_of, place_in, slot_of, inserted, listed, listing, Lists};
 
 // The room of a name in the table.
 pub const NAME_BYTES: usize = 64;
@@ -18,34 +16,12 @@ fn text_of<'a>(bytes: &'a [u8], lens: &[usize], j: usize) -> &'a [u8]
     requires at_most { AtMost 64 lens.now }
     ensures { result.now ≡ text_of bytes.now lens.now j }
 {
-    let n = lens[j];
     let from = j * NAME_BYTES;
-    let to = from + n;
-    &bytes[from..to]
+    &bytes[from..from + lens[j]]
 }
 
-// Whether a text comes before another.
-fn is_before(a: &[u8], b: &[u8]) -> bool
-    ensures { result ≡ before a.now b.now }
-{
-    let mut i = 0;
-    loop {
-        if i >= b.len() {
-            return false;
-        }
-        if i >= a.len() {
-            return true;
-        }
-        let x = a[i];
-        let y = b[i];
-        if x != y {
-            return x < y;
-        }
-        i += 1;
-    }
-}
-
-// Where halving the first `count` of the list ends: behind those that come before the text, if the list is sorted.
+// Where halving the first `count` of the list ends: behind those that come before the text, if the list is sorted. No `partition_point`:
+// it asks for a sorted list, and which place it finds is its own affair.
 fn place_in(bytes: &[u8], lens: &[usize], order: &[usize], count: usize, name: &[u8]) -> usize
     requires table { Table bytes.now lens.now order.now }
     requires count_in_bounds { count ≤ length order.now }
@@ -56,7 +32,7 @@ fn place_in(bytes: &[u8], lens: &[usize], order: &[usize], count: usize, name: &
     while low < high {
         let mid = low + (high - low) / 2;
         let j = order[mid];
-        if is_before(text_of(bytes, lens, j), name) {
+        if text_of(bytes, lens, j) < name {
             low = mid + 1;
         } else {
             high = mid;
@@ -65,20 +41,18 @@ fn place_in(bytes: &[u8], lens: &[usize], order: &[usize], count: usize, name: &
     low
 }
 
-// The name that is the text, or a number past all names.
+// The name that is the text, or a number past all names. No Option: what is proved of links speaks of the number `slot_of` of specs/Table.
 pub fn slot_of(bytes: &[u8], lens: &[usize], order: &[usize], count: usize, name: &[u8]) -> usize
     requires table { Table bytes.now lens.now order.now }
     requires count_in_bounds { count ≤ length order.now }
     ensures { result ≡ slot_of bytes.now lens.now order.now count name.now }
 {
     let at = place_in(bytes, lens, order, count, name);
-    if at < count {
-        let j = order[at];
-        if same(name, text_of(bytes, lens, j)) {
-            return j;
-        }
+    if at < count && text_of(bytes, lens, order[at]) == name {
+        order[at]
+    } else {
+        lens.len()
     }
-    lens.len()
 }
 
 // Puts j into the first `count` of the list, at a place.
@@ -87,11 +61,7 @@ fn insert(order: &mut [usize], count: usize, at: usize, j: usize)
     requires at_le_count { at ≤ count }
     ensures { order.new ≡ inserted order.old count at j }
 {
-    let mut i = count;
-    while i > at {
-        order[i] = order[i - 1];
-        i -= 1;
-    }
+    order.copy_within(at..count, at + 1);
     order[at] = j;
 }
 
@@ -119,10 +89,8 @@ pub fn list_names(bytes: &[u8], lens: &[usize], order: &mut [usize]) -> usize
         × (result ≤ length order.new) × Table bytes.now lens.now order.new }
 {
     let mut count = 0;
-    let mut j = 0;
-    while j < lens.len() {
+    for j in 0..lens.len() {
         count = list_name(bytes, lens, order, count, j);
-        j += 1;
     }
     count
 }

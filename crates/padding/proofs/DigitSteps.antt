@@ -39,7 +39,7 @@ so_far_none s at h =
     record { after = omega arith; within = h; five = omega arith; read = rw z (read_none 10 (leading 10 (drop at s))) }
 
 module _ (s : List ℕ) (at n i : ℕ) (r : DigitsSoFar s at n i) where
-  pub so_far_more : i < length s → (i - at ≡ 5 → ⊥) → is_digit 10 (get_or s i 0) ≡ true → DigitsSoFar s at (n * 10 + (get_or s i 0 - 48)) (i + 1)
+  pub so_far_more : i < length s → i < at + 5 → is_digit 10 (get_or s i 0) ≡ true → DigitsSoFar s at (n * 10 + (get_or s i 0 - 48)) (i + 1)
   so_far_more h f d =
       let e : i + 1 - at ≡ i - at + 1 = omega (arith, r.after) in
       record {
@@ -66,11 +66,9 @@ module _ (s : List ℕ) (at n i : ℕ) (r : DigitsSoFar s at n i) where
     ends = e;
   }
 
-  pub so_far_five : i - at ≡ 5 → DigitsRead s at n i
-  so_far_five e = let a = r.after in done (λ h. absurd (omega arith))
-
   pub so_far_other : i < length s → is_digit 10 (get_or s i 0) ≡ false → DigitsRead s at n i
   so_far_other h d = done (λ k. lead_other s i h d)
 
-  pub so_far_end : length s ≤ i → DigitsRead s at n i
-  so_far_end h = done (λ k. lead_end s i h)
+  -- where the loop ends: the text ends there, or five digits are read
+  pub so_far_end : (end : ℕ) → end ≡ i → (i < at + 5 → length s ≤ i) → DigitsRead s at n end
+  so_far_end end e h = rw e (done (λ k. lead_end s i (h k)))

@@ -1,12 +1,12 @@
 -- The prefix in each case of what was read: the star, the digits before the point, and those after it. Assumes nothing.
 use mathlib.Core.Path.{◌≡◌, refl, sym, ap, ◌∙◌}
-use mathlib.Core.Bool.{Bool, true, false}
+use mathlib.Core.Bool.{false}
 use mathlib.Core.List.{List, [], ◌∷◌}
 use Prim.Native.Nat.{ℕ, ◌+◌, ◌*◌, ◌≤◌, ◌<◌}
 use native.Mathlib.Omega.{arith}
-use borrow.Author.Tests.{eq-eqb, ne_eqb, lt-ltb, le-ltb}
+use borrow.Author.Tests.{ne_eqb, lt-ltb, le-ltb}
 use lib.ListN.{length, drop, get_or, drop_of_length-le}
-use lib.Seq.{drop-drop}
+use lib.Seq.{drop-drop, get_or-drop}
 use Rattle.spec.specs.Choice.{is_empty}
 use Rattle.spec.specs.Digits.{value, value_from, leading, trailing}
 use Rattle.spec.specs.Padding.{split, refused, tenths, starred, past_star, past_digits, prefix_of}
@@ -15,18 +15,7 @@ use Rattle.laws.proofs.LeadingDigits.{trailing-drop}
 use Rattle.laws.proofs.TextSteps.{drop-next}
 use Rattle.padding.specs.Reading.{PrefixRead, StarRead, DigitsRead}
 use Rattle.padding.specs.declared.Prefix.{Prefix}
-use Rattle.padding.specs.declared.Prefix.TheVariants.{Split, BadPadding}
-
--- ---- the star
-
-pub star_here : (s : List ℕ) (at delay : ℕ) → at < length s → get_or s at 0 ≡ 42 → StarRead s at delay (Split delay true (at + 1))
-star_here s at delay h e = let d = drop-next s at h in (refl, rw (d, eq-eqb _ _ e), rw (d, eq-eqb _ _ e), omega arith)
-
-pub star-other : (s : List ℕ) (at delay : ℕ) → at < length s → (get_or s at 0 ≡ 42 → ⊥) → StarRead s at delay (Split delay false at)
-star-other s at delay h e = let d = drop-next s at h in (refl, rw (d, ne_eqb _ _ e), rw (d, ne_eqb _ _ e), omega arith)
-
-pub star-end : (s : List ℕ) (at delay : ℕ) → at ≤ length s → length s ≤ at → StarRead s at delay (Split delay false at)
-star-end s at delay l h = let d = drop_of_length-le s h in (refl, rw d, rw d, l)
+use Rattle.std.specs.Prelude.{Ok, Err}
 
 -- ---- the prefix, by what was read
 
@@ -52,19 +41,20 @@ module _ (s : List ℕ) (at n end : ℕ) (d : DigitsRead s at n end) where
   read_many e = omega (arith, d.counts)
 
 -- what stands behind the digits
-star-split : (s : List ℕ) (at delay d : ℕ) (star : Bool) (from : ℕ) → StarRead s at delay (Split d star from)
-    → split (record { delay = delay; star = starred (drop at s); body = past_star (drop at s) }) ≡ split
-    (record { delay = d; star = star; body = drop from s })
-star-split s at delay d star from st =
+star-split : (s : List ℕ) (at delay : ℕ) (p : Prefix) → StarRead s at delay p
+    → split (record { delay = delay; star = starred (drop at s); body = past_star (drop at s) })
+    ≡ split (record { delay = p.delay; star = p.star; body = drop p.from s })
+star-split s at delay p st =
     let e = sym st.0 in
     let f = sym st.1 in
     let g = sym st.2 in
     λ i. split (record { delay = e i; star = f i; body = g i })
 
-past-plain : (n : ℕ) (s : List ℕ) (c : ℕ) (t : List ℕ) → s ≡ c ∷ t → (c ≡ 46 → ⊥) → past_digits n s ≡ split
+past-plain : (n : ℕ) (s : List ℕ) → (get_or s 0 0 ≡ 46 → ⊥) → past_digits n s ≡ split
     (record { delay = 10 * n; star = starred s; body = past_star s })
 unfolding tenths value_from
-past-plain n s c t e p = let w : 10 * n + 0 ≡ 10 * n = omega arith in rw (e, ne_eqb _ _ p, w)
+past-plain n [] p = let w : 10 * n + 0 ≡ 10 * n = omega arith in rw w
+past-plain n (c ∷ t) p = let w : 10 * n + 0 ≡ 10 * n = omega arith in rw (ne_eqb _ _ p, w)
 
 past_point : (n : ℕ) (s t : List ℕ) → s ≡ 46 ∷ t → leading 10 t ≡ [] → past_digits n s ≡ split (record { delay = 10 * n; star = false; body = s })
 unfolding tenths value_from
@@ -80,11 +70,11 @@ unfolding tenths
 past_tenth n m s t u e k v b = rw (e, k, v, some_digits (leading 10 t) (omega arith), b)
 
 module _ (cmd : List ℕ) (n end : ℕ) (d : DigitsRead cmd 0 n end) where
-  pub prefix-none : end ≡ 0 → PrefixRead cmd (Split 0 false 0)
+  pub prefix-none : end ≡ 0 → PrefixRead cmd (Ok (record { delay = 0; star = false; from = 0 }))
   unfolding prefix_of
   prefix-none e = let k = read_count cmd 0 n end d (omega arith) in (rw (drop_of_length-le (leading 10 cmd) {i = 0} (omega arith)), omega arith)
 
-  pub prefix_many : 4 < end → PrefixRead cmd BadPadding
+  pub prefix_many : 4 < end → PrefixRead cmd (Err Bad)
   unfolding prefix_of
   prefix_many h =
       let f = d.five in
@@ -101,28 +91,19 @@ module _ (cmd : List ℕ) (n end : ℕ) (d : DigitsRead cmd 0 n end) where
         let b : trailing 10 cmd ≡ drop end cmd = read_behind cmd 0 n end d (omega arith) in
         rw (some_digits (leading 10 cmd) (omega arith), le-ltb 4 _ l, v, b)
 
-    pub prefix-all : end ≡ length cmd → PrefixRead cmd (Split (10 * n) false end)
-    unfolding tenths value_from
-    prefix-all e =
-        let f : length cmd ≤ end = omega arith in
-        let z : drop end cmd ≡ [] = drop_of_length-le cmd f in
-        let w : 10 * n + 0 ≡ 10 * n = omega arith in
-        (past ∙ rw (z, w), omega arith)
-
     -- no point: the star is looked for where the digits end
-    pub prefix-plain : end < length cmd → (get_or cmd end 0 ≡ 46 → ⊥) → (r : Prefix) → StarRead cmd end (10 * n) r → PrefixRead cmd r
-    prefix-plain l p (Split delay star from) st = (
-      past ∙ past-plain n (drop end cmd) (get_or cmd end 0) (drop (end + 1) cmd) (drop-next cmd end l) p ∙ star-split cmd end (10 * n) delay star from st,
-      st.3,
-    )
-    prefix-plain l p BadPadding st = absurd st
+    pub prefix-plain : (get_or cmd end 0 ≡ 46 → ⊥) → (r : Prefix) → StarRead cmd end (10 * n) r → PrefixRead cmd (Ok r)
+    prefix-plain p r st =
+        let e : end + 0 ≡ end = omega arith in
+        let first : get_or (drop end cmd) 0 0 ≡ get_or cmd end 0 = get_or-drop end cmd 0 0 ∙ rw e in
+        (past ∙ past-plain n (drop end cmd) (λ f. p (sym first ∙ f)) ∙ star-split cmd end (10 * n) r st, st.3)
 
     -- a point, and the digits behind it: none, more than one, or one, and then maybe a star
     module _ (m to : ℕ) (l : end < length cmd) (p : get_or cmd end 0 ≡ 46) (e : DigitsRead cmd (end + 1) m to) where
       point : drop end cmd ≡ 46 ∷ drop (end + 1) cmd
       point = drop-next cmd end l ∙ ap (λ (c : ℕ). c ∷ drop (end + 1) cmd) p
 
-      pub prefix_point : to ≡ end + 1 → PrefixRead cmd (Split (10 * n) false end)
+      pub prefix_point : to ≡ end + 1 → PrefixRead cmd (Ok (record { delay = 10 * n; star = false; from = end }))
       prefix_point t =
           let k = read_count cmd (end + 1) m to e (omega arith) in (
             past ∙ past_point n (drop end cmd) (drop (end + 1) cmd) point (drop_of_length-le (leading 10 (drop (end + 1) cmd)) {i = 0} (omega arith)),
@@ -130,16 +111,14 @@ module _ (cmd : List ℕ) (n end : ℕ) (d : DigitsRead cmd 0 n end) where
                 arith,
           )
 
-      pub prefix_two : end + 2 < to → PrefixRead cmd BadPadding
+      pub prefix_two : end + 2 < to → PrefixRead cmd (Err Bad)
       prefix_two t = past ∙ past_two n (drop end cmd) (drop (end + 1) cmd) point (omega (arith, e.counts))
 
-      pub prefix_tenth : (to ≡ end + 1 → ⊥) → to ≤ end + 2 → (r : Prefix) → StarRead cmd to (10 * n + m) r → PrefixRead cmd r
-      prefix_tenth o t (Split delay star from) st =
+      pub prefix_tenth : to ≡ end + 2 → (r : Prefix) → StarRead cmd to (10 * n + m) r → PrefixRead cmd (Ok r)
+      prefix_tenth t r st =
           let k = read_count cmd (end + 1) m to e (omega arith) in
           let v = read_value_lem cmd (end + 1) m to e (omega arith) in
           let b = read_behind cmd (end + 1) m to e (omega arith) in (
-            past ∙ past_tenth n m (drop end cmd) (drop (end + 1) cmd) (drop to cmd) point (omega (arith, e.after)) v b ∙ star-split cmd to (10 * n + m) delay
-                star from st,
+            past ∙ past_tenth n m (drop end cmd) (drop (end + 1) cmd) (drop to cmd) point (omega (arith, e.after)) v b ∙ star-split cmd to (10 * n + m) r st,
             st.3,
           )
-      prefix_tenth o t BadPadding st = absurd st

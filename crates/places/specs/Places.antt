@@ -1,5 +1,5 @@
 -- The parameters that eight bytes hold: the bridge to the definitions of `spec`, which speak of `Parameters`.
-use Rattle.std.specs.Prelude.{ℕ}
+use Rattle.std.specs.Prelude.{ℕ, Option, Some, None}
 use Rattle.spec.specs.Values.{holding}
 use Rattle.spec.specs.declared.position.Parameter.{Parameter}
 use Rattle.spec.specs.declared.position.Parameter.TheVariants.{Row, Column}
@@ -9,8 +9,6 @@ use Rattle.spec.specs.declared.position.Parameters.TheVariants.{TwoUnused, OneUn
 use Rattle.places.specs.declared.Places.{Places}
 use Rattle.places.specs.declared.Turn.{Turn}
 use Rattle.places.specs.declared.Turn.TheVariants.{RowColumn, ColumnRow, ColumnLeft, RowLeft, RowFirst, ColumnFirst}
-use Rattle.places.specs.declared.Next.{Next}
-use Rattle.places.specs.declared.Next.TheVariants.{Row as NextRow, Column as NextColumn, Nothing}
 
 -- The row once it is used, and the column.
 abbrev pub used_row : Places → Used
@@ -31,14 +29,10 @@ unfoldable pub parameters_of : Places → Parameters
 parameters_of s = in_turn s.turn s
 
 -- The next parameter, and the parameters with another value of it.
-abbrev pub on_axis : Parameter → Next
-on_axis (Row r) = NextRow r
-on_axis (Column c) = NextColumn c
-
-abbrev pub next_of : Parameters → Next
-next_of (TwoUnused p q) = on_axis p
-next_of (OneUnused u p) = on_axis p
-next_of (AllUsed u v) = Nothing
+abbrev pub next_of : Parameters → Option Parameter
+next_of (TwoUnused p q) = Some p
+next_of (OneUnused u p) = Some p
+next_of (AllUsed u v) = None
 
 abbrev pub with_next_value : Parameters → ℕ → Parameters
 with_next_value (TwoUnused p q) h = TwoUnused (holding p h) q

@@ -7,7 +7,7 @@ ghost use Rattle.spec.specs.declared.position.Parameter.TheVariants.{Row as OfRo
 ghost use Rattle.spec.specs.declared.position.Parameters.TheVariants.{TwoUnused};
 ghost use Rattle.places.specs.Places.{parameters_of, next_of, with_next_value};
 
-use spec::position::{Column, Row};
+use spec::position::{Column, Parameter, Row};
 
 // How a row or a column holds the value 0; negative values are held below it.
 pub const ZERO: u16 = 32768;
@@ -34,139 +34,92 @@ pub struct Places {
     pub backs: u8,
 }
 
-// The next parameter, by its axis.
-#[derive(Clone, Copy)]
-pub enum Next {
-    Row(Row),
-    Column(Column),
-    Nothing,
-}
-
-// "Row is the first parameter, column the second."
-pub fn both_unused(row: Row, column: Column) -> Places
-    ensures { parameters_of result ≡ TwoUnused (OfRow row) (OfColumn column) }
-{
-    Places {
-        row: row,
-        column: column,
-        turn: Turn::RowColumn,
-        ups: 0,
-        backs: 0,
+impl Places {
+    // "Row is the first parameter, column the second."
+    #[tactic(auto, unfolding(crate::specs::Places::parameters_of))]
+    pub fn both_unused(row: Row, column: Column) -> Places
+        ensures { parameters_of result ≡ TwoUnused (OfRow row) (OfColumn column) }
+    {
+        Places {
+            row,
+            column,
+            turn: Turn::RowColumn,
+            ups: 0,
+            backs: 0,
+        }
     }
-}
 
-pub fn next_parameter(s: Places) -> Next
-    ensures { result ≡ next_of (parameters_of s) }
-{
-    let row = s.row;
-    let column = s.column;
-    let turn = s.turn;
-    match turn {
-        Turn::RowColumn => Next::Row(row),
-        Turn::RowLeft => Next::Row(row),
-        Turn::ColumnRow => Next::Column(column),
-        Turn::ColumnLeft => Next::Column(column),
-        Turn::RowFirst => Next::Nothing,
-        Turn::ColumnFirst => Next::Nothing,
+    // The next parameter, on its axis.
+    #[tactic(auto, unfolding(crate::specs::Places::parameters_of))]
+    pub fn next_parameter(self) -> Option<Parameter>
+        ensures { result ≡ next_of (parameters_of self) }
+    {
+        match self.turn {
+            Turn::RowColumn | Turn::RowLeft => Some(Parameter::Row(self.row)),
+            Turn::ColumnRow | Turn::ColumnLeft => Some(Parameter::Column(self.column)),
+            Turn::RowFirst | Turn::ColumnFirst => None,
+        }
     }
-}
 
-// The next parameter is used up, and its byte asks for so many compensations.
-pub fn take_next(s: Places, compensations: u8) -> Places
-    ensures { parameters_of result ≡ take_next (parameters_of s) compensations }
-{
-    let row = s.row;
-    let column = s.column;
-    let turn = s.turn;
-    match turn {
-        Turn::RowColumn => Places {
-            row: row,
-            column: column,
-            turn: Turn::ColumnLeft,
-            ups: compensations,
-            backs: s.backs,
-        },
-        Turn::RowLeft => Places {
-            row: row,
-            column: column,
-            turn: Turn::ColumnFirst,
-            ups: compensations,
-            backs: s.backs,
-        },
-        Turn::ColumnRow => Places {
-            row: row,
-            column: column,
-            turn: Turn::RowLeft,
-            ups: s.ups,
-            backs: compensations,
-        },
-        Turn::ColumnLeft => Places {
-            row: row,
-            column: column,
-            turn: Turn::RowFirst,
-            ups: s.ups,
-            backs: compensations,
-        },
-        Turn::RowFirst => s,
-        Turn::ColumnFirst => s,
+    // The next parameter is used up, and its byte asks for so many compensations.
+    #[tactic(auto, unfolding(crate::specs::Places::parameters_of))]
+    pub fn take_next(self, compensations: u8) -> Places
+        ensures { parameters_of result ≡ take_next (parameters_of self) compensations }
+    {
+        match self.turn {
+            Turn::RowColumn => Places {
+                turn: Turn::ColumnLeft,
+                ups: compensations,
+                ..self
+            },
+            Turn::RowLeft => Places {
+                turn: Turn::ColumnFirst,
+                ups: compensations,
+                ..self
+            },
+            Turn::ColumnRow => Places {
+                turn: Turn::RowLeft,
+                backs: compensations,
+                ..self
+            },
+            Turn::ColumnLeft => Places {
+                turn: Turn::RowFirst,
+                backs: compensations,
+                ..self
+            },
+            Turn::RowFirst | Turn::ColumnFirst => self,
+        }
     }
-}
 
-// The same in another turn.
-pub fn with_turn(s: Places, turn: Turn) -> Places
-    ensures { result ≡ record { row = s.row; column = s.column; turn = turn; ups = s.ups; backs = s.backs } }
-{
-    let row = s.row;
-    let column = s.column;
-    Places {
-        row: row,
-        column: column,
-        turn: turn,
-        ups: s.ups,
-        backs: s.backs,
+    // The same in another turn.
+    pub fn with_turn(self, turn: Turn) -> Places
+        ensures { result ≡ record { row = self.row; column = self.column; turn = turn; ups = self.ups; backs = self.backs } }
+    {
+        Places { turn, ..self }
     }
-}
 
-// Another row, another column: "each keeps its axis".
-pub fn with_row(s: Places, row: Row) -> Places
-    ensures { result ≡ record { row = row; column = s.column; turn = s.turn; ups = s.ups; backs = s.backs } }
-{
-    let column = s.column;
-    let turn = s.turn;
-    Places {
-        row: row,
-        column: column,
-        turn: turn,
-        ups: s.ups,
-        backs: s.backs,
+    // Another row, another column: "each keeps its axis".
+    pub fn with_row(self, row: Row) -> Places
+        ensures { result ≡ record { row = row; column = self.column; turn = self.turn; ups = self.ups; backs = self.backs } }
+    {
+        Places { row, ..self }
     }
-}
 
-pub fn with_column(s: Places, column: Column) -> Places
-    ensures { result ≡ record { row = s.row; column = column; turn = s.turn; ups = s.ups; backs = s.backs } }
-{
-    let row = s.row;
-    let turn = s.turn;
-    Places {
-        row: row,
-        column: column,
-        turn: turn,
-        ups: s.ups,
-        backs: s.backs,
+    pub fn with_column(self, column: Column) -> Places
+        ensures { result ≡ record { row = self.row; column = column; turn = self.turn; ups = self.ups; backs = self.backs } }
+    {
+        Places { column, ..self }
     }
-}
 
-// The next parameter holds another value.
-pub fn with_next(s: Places, h: u16) -> Places
-    ensures { parameters_of result ≡ with_next_value (parameters_of s) h }
-{
-    let turn = s.turn;
-    match turn {
-        Turn::RowColumn => with_row(s, Row(h)),
-        Turn::RowLeft => with_row(s, Row(h)),
-        Turn::ColumnRow => with_column(s, Column(h)),
-        Turn::ColumnLeft => with_column(s, Column(h)),
-        Turn::RowFirst => s,
-        Turn::ColumnFirst => s,
+    // The next parameter holds another value.
+    #[tactic(auto, unfolding(crate::specs::Places::parameters_of))]
+    pub fn with_next(self, h: u16) -> Places
+        ensures { parameters_of result ≡ with_next_value (parameters_of self) h }
+    {
+        match self.turn {
+            Turn::RowColumn | Turn::RowLeft => self.with_row(Row(h)),
+            Turn::ColumnRow | Turn::ColumnLeft => self.with_column(Column(h)),
+            Turn::RowFirst | Turn::ColumnFirst => self,
+        }
     }
 }

@@ -1,6 +1,6 @@
 -- Digits that are written from the last one on. Assumes nothing.
-use mathlib.Core.Path.{◌≡◌, refl, sym, ap, ◌∙◌}
-use mathlib.Core.List.{List, [], ◌∷◌, ◌++◌, append_assoc, append-nil}
+use mathlib.Core.Path.{◌≡◌, refl, ap, ◌∙◌}
+use mathlib.Core.List.{List, [], ◌∷◌, ◌++◌, append_assoc}
 use Prim.Native.Nat.{ℕ, suc, ◌+◌, ◌*◌, ◌/◌, ◌%◌, ◌^◌, ◌<◌, ◌≤◌}
 use native.Mathlib.Numerals.{add-one}
 use native.Mathlib.Omega.{arith}
@@ -25,9 +25,6 @@ pub record Spelt (out₀ out : List ℕ) (at n k i left : ℕ) : Type 0 where
   pub spelled : spell 10 k n ≡ spell 10 i left ++ behind
   pub stored : out ≡ sets out₀ (at + i) behind
   pub same : length out ≡ length out₀
-
-pub spelt_none : (out : List ℕ) (at n k : ℕ) → n < 10 ^ k → Spelt out out at n k k n
-spelt_none out at n k h = record { inside = omega arith; below = h; behind = []; spelled = sym (append-nil _); stored = refl; same = refl }
 
 pub spelt_more : (out₀ out out' : List ℕ) (at n k i j left : ℕ) → Spelt out₀ out at n k i left → j + 1 ≡ i → out' ≡ set out (at + j) (48 + left % 10)
     → Spelt out₀ out' at n k j (left / 10)

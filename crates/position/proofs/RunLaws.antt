@@ -1,5 +1,5 @@
 -- A run of plain bytes, and what follows the sign behind it. Assumes nothing.
-use mathlib.Core.Path.{◌≡◌, refl, sym, ap, ◌∙◌}
+use mathlib.Core.Path.{◌≡◌, sym, ap, ◌∙◌}
 use mathlib.Core.List.{List, [], ◌∷◌, ◌++◌, append-nil}
 use Prim.Native.Nat.{ℕ, ◌+◌, ◌-◌, ◌<◌, ◌≤◌}
 use native.Mathlib.Numerals.{add-one}
@@ -8,7 +8,9 @@ use lib.ListN.{length, drop, get_or, set, length-append, length-set, drop_of_len
 use lib.Seq.{sets, drop-cons}
 use borrow.Author.Tests.{eq-eqb, ne_eqb}
 use Rattle.position.proofs.FillSteps.{part, part_is}
-use Rattle.position.proofs.StepLaws.{then-then, then-none, sets-append, part_length, went_on}
+use Rattle.position.proofs.StepLaws.{then-then, sets-append, part_length, went_on}
+use Rattle.std.specs.Prelude.{Result, Ok}
+use Rattle.spec.specs.declared.Refusal.{Refusal}
 use Rattle.position.specs.declared.Step.{Step}
 use Rattle.position.specs.declared.Step.TheVariants.{Done}
 use Rattle.spec.specs.Position.{filled, then, plain_of, percent_of}
@@ -38,9 +40,6 @@ pub record Run (s : List ℕ) (g : Raising) (ps : Parameters) (out₀ : List ℕ
   pub gives : plain_of s g ps ≡ then wrote (plain_of (drop i s) g ps)
   pub stored : out ≡ sets out₀ at wrote
 
-pub run_first : (s : List ℕ) (g : Raising) (ps : Parameters) (out : List ℕ) (at : ℕ) → Run s g ps out at out 0
-run_first s g ps out at = record { inside = omega arith; same = refl; wrote = []; counted = refl; gives = sym (then-none (plain_of s g ps)); stored = refl }
-
 module _ (s : List ℕ) (g : Raising) (ps : Parameters) (out₀ : List ℕ) (at : ℕ) (out : List ℕ) (i : ℕ) (run : Run s g ps out₀ at out i) where
   at_byte : i < length s → (get_or s i 0 ≡ 37 → ⊥) → plain_of (drop i s) g ps ≡ then (get_or s i 0 ∷ []) (plain_of (drop (i + 1) s) g ps)
   unfolding plain_of
@@ -60,7 +59,7 @@ module _ (s : List ℕ) (g : Raising) (ps : Parameters) (out₀ : List ℕ) (at 
   }
 
   -- A sign, and the percent step's answer.
-  pub at-next_sign : i < length s → get_or s i 0 ≡ 37 → (r : Step) (o : List ℕ)
+  pub at-next_sign : i < length s → get_or s i 0 ≡ 37 → (r : Result Step Refusal) (o : List ℕ)
       → StepTaken (part s (i + 1)) g (percent_of (part s (i + 1)) Letter g ps) out (at + i) (percent_bound (part s (i + 1)) ps (at + i)) r o
       → StepTaken s g (plain_of s g ps) out₀ at (plain_bound s ps at) r o
   at-next_sign l e r o v =
@@ -70,10 +69,11 @@ module _ (s : List ℕ) (g : Raising) (ps : Parameters) (out₀ : List ℕ) (at 
       went_on s g (i + 1) (plain_of s g ps) (percent_of (part s (i + 1)) Letter g ps) run.wrote out₀ out at (at + i) _ _ r o
       (run.gives ∙ ap (then run.wrote) t) run.stored place (omega arith) v
 
-  pub at_last : length s ≤ i → (top : ℕ) (q : Places) → ps ≡ parameters_of q → StepTaken s g (plain_of s g ps) out₀ at top (Done (at + i) q) out
+  pub at_last : length s ≤ i → (top : ℕ) (q : Places) → ps ≡ parameters_of q
+      → StepTaken s g (plain_of s g ps) out₀ at top (Ok (Done (at + length s) q)) out
   at_last l top q e = (
     run.wrote,
     run.gives ∙ ap (then run.wrote) (at-end s g ps i l) ∙ ap (λ (x : List ℕ). filled x ps) (append-nil run.wrote) ∙ ap (filled run.wrote) e,
-    place,
+    omega (arith, run.counted, run.inside),
     run.stored,
   )

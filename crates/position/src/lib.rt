@@ -11,7 +11,7 @@ ghost use Rattle.places.specs.Places.{parameters_of};
 ghost use Rattle.position.specs.Filling.{unused, plain_bound, percent_bound, SequenceDone, StepTaken, BodyFilled};
 
 use places::Places;
-use sequences::{Performed, Reading, perform, read_sequence};
+use sequences::{perform, read_sequence};
 use spec::Refusal;
 use spec::position::{Output, Raising};
 use stores::put_byte;
@@ -25,32 +25,20 @@ const DEPTH: usize = 12;
 fn digits_in(n: u16) -> usize
     ensures { Fewest 10 0 n result }
 {
-    if n == 0 {
-        return 0;
+    match n {
+        0 => 0,
+        1..=9 => 1,
+        10..=99 => 2,
+        100..=999 => 3,
+        1000..=9999 => 4,
+        _ => 5,
     }
-    if n < 10 {
-        return 1;
-    }
-    if n < 100 {
-        return 2;
-    }
-    if n < 1000 {
-        return 3;
-    }
-    if n < 10000 {
-        return 4;
-    }
-    5
 }
 
 fn digit_count(n: u16, least: u8) -> usize
     ensures { Fewest 10 least n result }
 {
-    let d = digits_in(n);
-    if d < least as usize {
-        return least as usize;
-    }
-    d
+    digits_in(n).max(least as usize)
 }
 
 // A number in `count` digits, from the last one on.
@@ -58,10 +46,8 @@ fn write_digits(n: u16, count: usize, out: &mut [u8], at: usize)
     requires { (at + count < 2 ^ 64) × (n < 10 ^ count) }
     ensures { out.new ≡ sets out.old at (spell 10 count n) }
 {
-    let mut i = count;
     let mut rest = n;
-    while i > 0 {
-        i -= 1;
+    for i in (0..count).rev() {
         put_byte(out, at + i, b'0' + (rest % 10) as u8);
         rest /= 10;
     }
@@ -114,19 +100,19 @@ fn write_output(x: Output, out: &mut [u8], at: usize) -> usize
 
 // ---- "plain bytes and percent sequences alternate until the command is used up"
 
-// How far the steps came: to the end, at a place and with these parameters; to a fault; or to a pause, with so many bytes left.
+// How far the steps came: to the end, at a place and with these parameters; or to a pause, with so many bytes left.
 #[derive(Clone, Copy)]
 enum Step {
     Done(usize, Places),
-    Fault(Refusal),
     Paused(usize, usize, Places),
 }
 
-// A sequence that was done: the place after it in the command, the place after what it wrote, and the parameters; or its fault.
+// A sequence that was done: the place after it in the command, the place after what it wrote, and the parameters.
 #[derive(Clone, Copy)]
-enum Sequenced {
-    Until(usize, usize, Places),
-    Fault(Refusal),
+struct Sequenced {
+    next: usize,
+    end: usize,
+    places: Places,
 }
 
 // Reads a sequence from its letter on, does it, and writes what it writes.
@@ -137,44 +123,42 @@ fn do_sequence(
     ps: Places,
     out: &mut [u8],
     at: usize,
-) -> Sequenced
+) -> Result<Sequenced, Refusal>
     requires { (from ≤ length command.now) × (at + (length command.now - from) + 1 + 3 * unused (parameters_of ps) < 2 ^ 64) }
     ensures { SequenceDone command.now from g (parameters_of ps) out.old at result out.new }
 {
-    let reading = read_sequence(command, from);
-    match reading {
-        Reading::Unknown => return Sequenced::Fault(Refusal::UnknownSequence),
-        Reading::Whole(sequence, next) => {
-            let performed = perform(g, sequence, ps);
-            match performed {
-                Performed::Refused(r) => return Sequenced::Fault(r),
-                Performed::Gives(x, qs) => {
-                    let end = write_output(x, out, at);
-                    return Sequenced::Until(next, end, qs);
-                }
-            }
-        }
-    }
+    let Some((sequence, next)) = read_sequence(command, from) else {
+        return Err(Refusal::UnknownSequence);
+    };
+    let performed = perform(g, sequence, ps)?;
+    Ok(Sequenced {
+        next,
+        end: write_output(performed.output, out, at),
+        places: performed.places,
+    })
 }
 
 // Where a plain byte or a percent sign is due: a run of plain bytes up to the next sign.
 #[cycle(percent_plain)]
-fn plain(command: &[u8], g: Raising, ps: Places, out: &mut [u8], at: usize, depth: usize) -> Step
+fn plain(
+    command: &[u8],
+    g: Raising,
+    ps: Places,
+    out: &mut [u8],
+    at: usize,
+    depth: usize,
+) -> Result<Step, Refusal>
     requires { plain_bound command.now (parameters_of ps) at < 2 ^ 64 }
     ensures { StepTaken command.now g (plain_of command.now g (parameters_of ps)) out.old at
         (plain_bound command.now (parameters_of ps) at) result out.new }
 {
-    let mut i = 0;
-    while i < command.len() {
-        let b = command[i];
+    for (i, &b) in command.iter().enumerate() {
         if b == b'%' {
-            let k = i + 1;
-            return percent(&command[k..], g, ps, out, at + i, depth);
+            return percent(&command[i + 1..], g, ps, out, at + i, depth);
         }
         put_byte(out, at + i, b);
-        i += 1;
     }
-    Step::Done(at + i, ps)
+    Ok(Step::Done(at + command.len(), ps))
 }
 
 // Sequences that follow each other, from the letter of the first one on, up to the next plain byte.
@@ -186,7 +170,7 @@ fn percent(
     out: &mut [u8],
     start: usize,
     depth: usize,
-) -> Step
+) -> Result<Step, Refusal>
     requires { percent_bound command.now (parameters_of first) start < 2 ^ 64 }
     ensures { StepTaken command.now g (percent_of command.now Letter g (parameters_of first)) out.old start
         (percent_bound command.now (parameters_of first) start) result out.new }
@@ -195,36 +179,43 @@ fn percent(
     let mut at = start;
     let mut ps = first;
     loop {
-        let sequenced = do_sequence(command, i, g, ps, out, at);
-        match sequenced {
-            Sequenced::Fault(r) => return Step::Fault(r),
-            Sequenced::Until(next, to, qs) => {
-                if next == command.len() {
-                    return Step::Done(to, qs);
-                }
-                if command[next] != b'%' {
-                    if depth == 0 {
-                        return Step::Paused(command.len() - next, to, qs);
-                    }
-                    return plain(&command[next..], g, qs, out, to, depth - 1);
-                }
-                i = next + 1;
-                at = to;
-                ps = qs;
-            }
+        let done = do_sequence(command, i, g, ps, out, at)?;
+        if done.next == command.len() {
+            return Ok(Step::Done(done.end, done.places));
         }
+        if command[done.next] != b'%' {
+            if depth == 0 {
+                return Ok(Step::Paused(command.len() - done.next, done.end, done.places));
+            }
+            return plain(
+                &command[done.next..],
+                g,
+                done.places,
+                out,
+                done.end,
+                depth - 1,
+            );
+        }
+        i = done.next + 1;
+        at = done.end;
+        ps = done.places;
     }
 }
 
-// A body filled in: the place after its bytes, and the parameters as it leaves them; or its first fault.
+// A body filled in: the place after its bytes, and the parameters as it leaves them.
 #[derive(Clone, Copy)]
-pub enum BodyEnd {
-    At(usize, Places),
-    Refused(Refusal),
+pub struct BodyEnd {
+    pub end: usize,
+    pub places: Places,
 }
 
 // Fills a body in from the start of the buffer on; with an empty part of it, only measures.
-pub fn fill_body(command: &[u8], g: Raising, first: Places, out: &mut [u8]) -> BodyEnd
+pub fn fill_body(
+    command: &[u8],
+    g: Raising,
+    first: Places,
+    out: &mut [u8],
+) -> Result<BodyEnd, Refusal>
     ensures { BodyFilled (plain_of command.now g (parameters_of first)) out.old result out.new }
 {
     let mut left = command.len();
@@ -232,14 +223,12 @@ pub fn fill_body(command: &[u8], g: Raising, first: Places, out: &mut [u8]) -> B
     let mut ps = first;
     loop {
         let from = command.len() - left;
-        let step = plain(&command[from..], g, ps, out, at, DEPTH);
-        match step {
-            Step::Done(end, qs) => return BodyEnd::At(end, qs),
-            Step::Fault(r) => return BodyEnd::Refused(r),
-            Step::Paused(l, end, qs) => {
-                left = l;
+        match plain(&command[from..], g, ps, out, at, DEPTH)? {
+            Step::Done(end, places) => return Ok(BodyEnd { end, places }),
+            Step::Paused(still, end, places) => {
+                left = still;
                 at = end;
-                ps = qs;
+                ps = places;
             }
         }
     }

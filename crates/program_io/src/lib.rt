@@ -2,11 +2,11 @@
 // written no contract can say.
 #![tactic(auto)]
 
-ghost use Rattle.std.specs.Prelude.{◌+◌, ◌≤◌, ◌≡◌, IsUtf8, MatchResult, length};
+ghost use Rattle.std.specs.Prelude.{◌+◌, ◌≤◌, ◌≡◌, ◌==◌, IsUtf8, MatchResult, length};
+ghost use Rattle.std.specs.List.{position};
 ghost use Rattle.std.proofs.lemmas.List.Edits.{sets};
 ghost use Rattle.io.specs.Counts.{IsPrefixLen};
 ghost use Rattle.spec.specs.Digits.{written};
-ghost use Rattle.spec.specs.Lists.{upto};
 ghost use Rattle.program_io.specs.Inputs.{Within, MoreRead, LineRead};
 
 use std::env::{Env, FillError};
@@ -15,31 +15,17 @@ use std::io::{Cursor, Error, ErrorKind, Read, Result, Write};
 use std::rt::Files;
 use stores::put_bytes;
 
-// What was read into a buffer: so many bytes; or why the read failed.
-#[derive(Clone, Copy)]
-pub enum Input {
-    Bytes(usize),
-    Failed(Error),
-}
-
 // The longest text of the system's for a failure has 256 bytes; its number stands behind it.
 const REASON_ROOM: usize = 320;
 
 // The system's number for a name that is too long, as Linux has it.
 const NAME_TOO_LONG: i32 = 36;
 
-// The bytes before the first b; all of them, if there is none.
-fn find(s: &[u8], b: u8) -> usize
-    ensures { (result ≡ length (upto b s.now)) × (result ≤ length s.now) }
+// Where a byte first stands.
+fn place(s: &[u8], b: u8) -> Option<usize>
+    ensures { result ≡ position (λ x. x == b) s.now }
 {
-    let mut i = 0;
-    while i < s.len() {
-        if s[i] == b {
-            return i;
-        }
-        i += 1;
-    }
-    i
+    s.iter().position(|x| *x == b)
 }
 
 // ---- messages
@@ -49,13 +35,10 @@ fn put_reason(reason: Error, text: &mut [u8]) -> usize
     ensures { IsPrefixLen result text.new }
 {
     let n = put_error(reason, text);
-    let end = find(&text[..n], b'(');
-    if end < n {
-        if end > 0 {
-            return end - 1;
-        }
+    match place(&text[..n], b'(') {
+        Some(end) if end > 0 => end - 1,
+        _ => n,
     }
-    n
 }
 
 // An error as std writes it, as far as it fits.
@@ -65,37 +48,43 @@ fn put_error(error: Error, text: &mut [u8]) -> usize
     let most = text.len();
     let mut writer = Cursor::new(text);
     let _ = write!(writer, "{error}");
-    let written = writer.position();
-    if written < most as u64 {
-        return written as usize;
+    writer.position().min(most as u64) as usize
+}
+
+// A program's messages on standard error, each a line that begins with its name.
+#[derive(Drop)]
+pub struct Messages<'a, E: Print> {
+    pub program: &'a [u8],
+    pub err: &'a E,
+}
+
+impl<'a, E: Print> Messages<'a, E> {
+    // What failed, and the reason that the system gives.
+    pub fn fail(&self, what: &[u8], reason: Error) {
+        let mut text = [0u8; REASON_ROOM];
+        let n = put_reason(reason, &mut text);
+        self.report(what, b": ");
+        let _ = self.err.write_all(&text[..n]);
+        let _ = self.err.write_all(b"\n");
     }
-    most
-}
 
-// Writes a line to standard error: the program, what failed, and the reason that the system gives.
-pub fn fail<E: Print>(err: &E, program: &[u8], what: &[u8], reason: Error) {
-    let mut text = [0u8; REASON_ROOM];
-    let n = put_reason(reason, &mut text);
-    let _ = err.write_all(program);
-    let _ = err.write_all(b": ");
-    let _ = err.write_all(what);
-    let _ = err.write_all(b": ");
-    let _ = err.write_all(&text[..n]);
-    let _ = err.write_all(b"\n");
-}
+    // A file, and what is wrong with it.
+    pub fn report(&self, path: &[u8], what: &[u8]) {
+        self.say(path);
+        let _ = self.err.write_all(what);
+    }
 
-// Writes a line to standard error: the program, a file, and what is wrong with it.
-pub fn report<E: Print>(err: &E, program: &[u8], path: &[u8], what: &[u8]) {
-    let _ = err.write_all(program);
-    let _ = err.write_all(b": ");
-    let _ = err.write_all(path);
-    let _ = err.write_all(what);
-}
+    pub fn say(&self, what: &[u8]) {
+        let _ = self.err.write_all(self.program);
+        let _ = self.err.write_all(b": ");
+        let _ = self.err.write_all(what);
+    }
 
-// Writes a text to standard output, or says why that failed.
-pub fn print<O: Print, E: Print>(out: &O, err: &E, program: &[u8], text: &[u8]) {
-    if let Err(reason) = out.write_all(text) {
-        fail(err, program, b"standard output", reason);
+    // Writes a text to standard output, or says why that failed.
+    pub fn print<O: Print>(&self, out: &O, text: &[u8]) {
+        if let Err(reason) = out.write_all(text) {
+            self.fail(b"standard output", reason);
+        }
     }
 }
 
@@ -104,30 +93,25 @@ pub fn print<O: Print, E: Print>(out: &O, err: &E, program: &[u8], text: &[u8]) 
 // Whether the program was given an argument of that number, counted from 1.
 pub fn has_argument<R: Env>(rt: &R, i: usize) -> bool {
     let mut start = [0u8; 1];
-    match rt.arg(i, &mut start) {
-        Err(FillError::NotPresent) => false,
-        _ => true,
-    }
+    !matches!(rt.arg(i, &mut start), Err(FillError::NotPresent))
 }
 
 // An argument at the start of a buffer. Of one that is too long the buffer holds what fits.
-pub fn argument<R: Env>(rt: &R, i: usize, buffer: &mut [u8]) -> Input
+pub fn argument<R: Env>(rt: &R, i: usize, buffer: &mut [u8]) -> Result<usize>
     ensures { Within result buffer.new }
 {
-    match rt.arg(i, buffer) {
-        Ok(n) => Input::Bytes(n),
-        Err(_) => Input::Failed(Error::from_raw_os_error(NAME_TOO_LONG)),
-    }
+    rt.arg(i, buffer)
+        .map_err(|_| Error::from_raw_os_error(NAME_TOO_LONG))
 }
 
 // A file's name as std takes it: text in UTF-8, byte for byte the same.
 pub fn name(path: &[u8]) -> Result<&str>
     ensures { MatchResult result (λ text. (text.now ≡ path.now) × IsUtf8 path.now) (λ e. ¬ (IsUtf8 path.now)) }
 {
-    match std::str::from_utf8(path) {
-        Ok(text) => Ok(text),
-        Err(_) => Err(Error::new(ErrorKind::InvalidInput, "A name in UTF-8 is wanted")),
-    }
+    std::str::from_utf8(path).map_err(|_| Error::new(
+        ErrorKind::InvalidInput,
+        "A name in UTF-8 is wanted",
+    ))
 }
 
 fn open_read<R: Files>(rt: &R, path: &[u8]) -> Result<R::File> {
@@ -137,71 +121,54 @@ fn open_read<R: Files>(rt: &R, path: &[u8]) -> Result<R::File> {
 // ---- reading
 
 // One read, after the bytes that were read before it. Where none is added, the input has ended.
-fn read_more<R: Read>(file: &mut R, buffer: &mut [u8], used: usize) -> Input
+fn read_more<R: Read>(file: &mut R, buffer: &mut [u8], used: usize) -> Result<usize>
     requires { used ≤ length buffer.old }
     ensures { MoreRead used result buffer.new }
 {
-    match file.read(&mut buffer[used..]) {
-        Ok(more) => Input::Bytes(used + more),
-        Err(reason) => Input::Failed(reason),
-    }
+    let more = file.read(&mut buffer[used..])?;
+    Ok(used + more)
 }
 
 // Reads until the file ends or the buffer is full.
-pub fn read_file<R: Read>(file: &mut R, buffer: &mut [u8]) -> Input
+pub fn read_file<R: Read>(file: &mut R, buffer: &mut [u8]) -> Result<usize>
     ensures { Within result buffer.new }
 {
+    // Not by std's `read_to_end`, which needs the heap.
     let mut used = 0;
     while used < buffer.len() {
-        let n = match read_more(file, buffer, used) {
-            Input::Bytes(n) => n,
-            Input::Failed(reason) => return Input::Failed(reason),
-        };
+        let n = read_more(file, buffer, used)?;
         if n == used {
-            return Input::Bytes(n);
+            return Ok(n);
         }
         used = n;
     }
-    Input::Bytes(used)
+    Ok(used)
 }
 
 // Opens the file of that name, reads it as `read_file` does, and closes it.
-pub fn read_path<R: Files>(rt: &R, path: &[u8], buffer: &mut [u8]) -> Input
+pub fn read_path<R: Files>(rt: &R, path: &[u8], buffer: &mut [u8]) -> Result<usize>
     ensures { Within result buffer.new }
 {
-    match open_read(rt, path) {
-        Ok(file) => read_opened(file, buffer),
-        Err(reason) => Input::Failed(reason),
-    }
-}
-
-fn read_opened<R: Read + Drop>(file: R, buffer: &mut [u8]) -> Input
-    ensures { Within result buffer.new }
-{
-    let mut open = file;
-    read_file(&mut open, buffer)
+    let mut file = open_read(rt, path)?;
+    read_file(&mut file, buffer)
 }
 
 // Reads until a newline is there, the input ends or the buffer is full: the bytes before the newline.
-pub fn read_line<R: Read>(file: &mut R, buffer: &mut [u8]) -> Input
+pub fn read_line<R: Read>(file: &mut R, buffer: &mut [u8]) -> Result<usize>
     ensures { LineRead result buffer.new }
 {
     let mut used = 0;
     while used < buffer.len() {
-        let n = match read_more(file, buffer, used) {
-            Input::Bytes(n) => n,
-            Input::Failed(reason) => return Input::Failed(reason),
-        };
-        let end = find(&buffer[..n], b'\n');
-        if end < n {
-            return Input::Bytes(end);
+        let n = read_more(file, buffer, used)?;
+        if let Some(end) = place(&buffer[..n], b'\n') {
+            return Ok(end);
         }
         if n == used {
-            return Input::Bytes(end);
+            return Ok(n);
         }
         used = n;
     }
-    Input::Bytes(used)
+    Ok(used)
 }
 
 // A number in decimal, from a place on; the place after it.

@@ -1,5 +1,6 @@
 -- A question's terminal and its answer, by the tests and the lookup in order.
 -- Assumes nothing.
+use Rattle.std.specs.Prelude.{Option, Some, None, Ok, Err}
 use Prim.Native.Nat.{ℕ}
 use mathlib.Core.Path.{◌≡◌, refl}
 use mathlib.Core.Bool.{Bool, true, false}
@@ -17,11 +18,11 @@ use Rattle.spec.specs.declared.Kind.{Kind}
 use Rattle.spec.specs.declared.Kind.TheVariants.{String}
 use Rattle.spec.specs.declared.Refusal.{Refusal}
 use Rattle.spec.specs.declared.Refusal.TheVariants.{BadName, BadId, DatabaseTooLarge, BadEnds}
-use Rattle.spec.specs.declared.Answer.TheVariants.{Present, Absent, Refused}
 use Rattle.identifiers.proofs.AskedNames.{id_is}
 use Rattle.lookup.specs.Answers.{LookedUp}
-use Rattle.lookup.specs.declared.ChainHit.{ChainHit}
 use Rattle.questions.specs.Answers.{id_refusal}
+use Rattle.spec.specs.declared.Location.{Location}
+use Rattle.fields.specs.declared.FieldRead.{FieldRead}
 
 -- ---- 16 comes before 1, and 1 before 2
 
@@ -46,7 +47,7 @@ module _ (db : Files) (name id : List ℕ) where
       go false g t = refl
 
 -- a good id is its two bytes
-pub asked-bytes : (id : List ℕ) (k : ℕ) (fs : List Field) (db : List (List ℕ)) (h : ChainHit) → good_id id ≡ true
+pub asked-bytes : (id : List ℕ) (k : ℕ) (fs : List Field) (db : List (List ℕ)) (h : Option (Location × FieldRead)) → good_id id ≡ true
     → LookedUp (get_or id 0 0 ∷ get_or id 1 0 ∷ []) k fs db h → LookedUp id k fs db h
 asked-bytes id k fs db h i q = rw (id_is id i) q
 
@@ -54,26 +55,26 @@ asked-bytes id k fs db h i q = rw (id_is id i) q
 
 module _ (id : List ℕ) (t : Terminal) where
   module _ (k : Kind) where
-    pub answer-refused : (r : Refusal) → t ≡ refused r → answer_for id k t ≡ Refused r
+    pub answer-refused : (r : Refusal) → t ≡ refused r → answer_for id k t ≡ Err r
     unfolding answer_for
     answer-refused r e = rw e
 
     module _ (names : List ℕ) (fs : List Field) (e : t ≡ terminal names fs) where
-      pub answer-absent : lookup id (kind_number k) fs ≡ none → answer_for id k t ≡ Absent
+      pub answer-absent : lookup id (kind_number k) fs ≡ none → answer_for id k t ≡ (Ok None)
       unfolding answer_for hit_answer
       answer-absent h = rw (e, h)
 
-      pub answer-present : (f : List ℕ) → lookup id (kind_number k) fs ≡ hit f → answer_for id k t ≡ Present (value_of (reading f))
+      pub answer-present : (f : List ℕ) → lookup id (kind_number k) fs ≡ hit f → answer_for id k t ≡ (Ok (Some (value_of (reading f))))
       unfolding answer_for hit_answer
       answer-present f h = rw (e, h)
 
   module _ (buffer : List ℕ) where
-    pub string-refused : (r : Refusal) → t ≡ refused r → string_for id t buffer ≡ keeping (Refused r) buffer
+    pub string-refused : (r : Refusal) → t ≡ refused r → string_for id t buffer ≡ keeping (Err r) buffer
     unfolding string_for
     string-refused r e = rw e
 
     module _ (names : List ℕ) (fs : List Field) (e : t ≡ terminal names fs) where
-      pub string-absent : lookup id (kind_number String) fs ≡ none → string_for id t buffer ≡ keeping Absent buffer
+      pub string-absent : lookup id (kind_number String) fs ≡ none → string_for id t buffer ≡ keeping (Ok None) buffer
       unfolding string_for decoded_outcome
       string-absent h = rw (e, h)
 

@@ -12,8 +12,9 @@
 ghost use Rattle.std.specs.Prelude.{◌≤◌, length};
 ghost use Rattle.io.specs.Counts.{IsPrefixLen};
 
-use case_lines::{find, number, room, show_bytes, show_refusal, show_written, text};
-use spec::{Answer, Shown};
+use case_lines::{
+    number, room, show_bytes, show_part, show_refusal, show_value, show_written, text,
+};
 
 // ---- the database
 
@@ -21,17 +22,9 @@ fn add_bytes(bytes: &[u8], space: &mut [u8], used: usize) -> usize
     requires { used ≤ length space.old }
     ensures { result ≤ length space.new }
 {
-    let mut n = used;
-    let mut i = 0;
-    while i < bytes.len() {
-        if n == space.len() {
-            return n;
-        }
-        space[n] = bytes[i];
-        n += 1;
-        i += 1;
-    }
-    n
+    let more = bytes.len().min(space.len() - used);
+    space[used..used + more].copy_from_slice(&bytes[..more]);
+    used + more
 }
 
 fn add_line(bytes: &[u8], space: &mut [u8], used: usize) -> usize
@@ -42,54 +35,16 @@ fn add_line(bytes: &[u8], space: &mut [u8], used: usize) -> usize
     add_bytes(b"\n", space, n)
 }
 
-fn add_copies(line: &[u8], space: &mut [u8], used: usize) -> usize
+fn add_copies(b: u8, count: usize, space: &mut [u8], used: usize) -> usize
     requires { used ≤ length space.old }
     ensures { result ≤ length space.new }
 {
-    if line.len() < 2 {
-        return used;
-    }
-    let b = line[1];
-    let most = number(line, 1);
-    let mut n = used;
-    let mut i = 0;
-    while i < most {
-        if n == space.len() {
-            return n;
-        }
-        space[n] = b;
-        n += 1;
-        i += 1;
-    }
-    n
+    let more = count.min(space.len() - used);
+    space[used..used + more].fill(b);
+    used + more
 }
 
 // ---- the answers
-
-fn show_value(answer: Answer) {
-    match answer {
-        Answer::Present(v) => {
-            io::write_all(1, b" present ");
-            io::print_decimal(1, v as u64);
-        }
-        Answer::Absent => {
-            io::write_all(1, b" absent");
-        }
-        Answer::Refused(r) => show_refusal(r.number()),
-    }
-}
-
-fn show_ends(shown: Shown) {
-    match shown {
-        Shown::Part(from, to) => {
-            io::write_all(1, b" part ");
-            io::print_decimal(1, from as u64);
-            io::write_all(1, b" ");
-            io::print_decimal(1, to as u64);
-        }
-        Shown::Refused(r) => show_refusal(r.number()),
-    }
-}
 
 fn show_shown(bytes: &[u8], refusal: u8) {
     if refusal == 0 {
@@ -104,106 +59,96 @@ fn show_shown(bytes: &[u8], refusal: u8) {
 
 // ---- the cases
 
-fn case_part(db: &[u8], ends: &[usize], name: &[u8]) {
-    show_ends(show::show_part(db, ends, name));
-    io::write_all(1, b"\n");
-}
-
-fn case_show(db: &[u8], ends: &[usize], name: &[u8]) {
-    let mut refusal = 255;
-    let bytes = show::show(db, ends, name, &mut refusal);
-    show_shown(bytes, refusal);
-    io::write_all(1, b"\n");
-}
-
-fn case_flag(db: &[u8], ends: &[usize], name: &[u8], id: &[u8]) {
-    show_value(questions::flag(db, ends, name, id));
-    io::write_all(1, b"\n");
-}
-
-fn case_number(db: &[u8], ends: &[usize], name: &[u8], id: &[u8]) {
-    show_value(questions::number(db, ends, name, id));
-    io::write_all(1, b"\n");
-}
-
-fn show_values(flag: Answer, number: Answer) {
-    show_value(flag);
-    show_value(number);
-}
-
-// One opened reader serves all three questions; its answers to Flag and Number are written.
-fn ask_opened<'a>(
+// What a case asks: a name and an id, on a database.
+#[derive(Clone, Copy)]
+struct Case<'a> {
+    operation: u8,
     db: &'a [u8],
-    ends: &[usize],
-    name: &[u8],
-    id: &[u8],
-    refusal: &mut u8,
-) -> &'a [u8] {
-    let opened = reader::open(db, ends);
-    let flag = reader::flag(opened, name, id);
-    let number = reader::number(opened, name, id);
-    show_values(flag, number);
-    reader::show(opened, name, refusal)
+    ends: &'a [usize],
+    name: &'a [u8],
+    id: &'a [u8],
 }
 
-fn case_opened(db: &[u8], ends: &[usize], name: &[u8], id: &[u8]) {
-    let mut refusal = 255;
-    let bytes = ask_opened(db, ends, name, id, &mut refusal);
-    show_shown(bytes, refusal);
-    io::write_all(1, b"\n");
-}
+impl<'a> Case<'a> {
+    fn part(&self) {
+        show_part(show::show_part(self.db, self.ends, self.name));
+        io::write_all(1, b"\n");
+    }
 
-fn case_string(db: &[u8], ends: &[usize], name: &[u8], id: &[u8], out: &mut [u8]) {
-    show_value(questions::string(db, ends, name, id, out));
-    io::write_all(1, b":");
-    show_bytes(out);
-    io::write_all(1, b"\n");
-}
+    fn show(&self) {
+        let mut refusal = 255;
+        let bytes = show::show(self.db, self.ends, self.name, &mut refusal);
+        show_shown(bytes, refusal);
+        io::write_all(1, b"\n");
+    }
 
-fn case_list(db: &[u8], ends: &[usize], name: &[u8], out: &mut [u8]) {
-    let answer = listing::list(db, ends, name, out);
-    show_written(answer, out);
-}
+    fn flag(&self) {
+        show_value(questions::flag(self.db, self.ends, self.name, self.id));
+        io::write_all(1, b"\n");
+    }
 
-fn case_flat(db: &[u8], ends: &[usize], name: &[u8], out: &mut [u8]) {
-    let answer = listing::flat(db, ends, name, out);
-    show_written(answer, out);
+    fn number(&self) {
+        show_value(questions::number(self.db, self.ends, self.name, self.id));
+        io::write_all(1, b"\n");
+    }
+
+    // One opened reader serves all three questions; its answers to Flag and Number are written.
+    fn ask_opened(&self, refusal: &mut u8) -> &'a [u8] {
+        let opened = reader::open(self.db, self.ends);
+        let flag = reader::flag(opened, self.name, self.id);
+        let number = reader::number(opened, self.name, self.id);
+        show_value(flag);
+        show_value(number);
+        reader::show(opened, self.name, refusal)
+    }
+
+    fn opened(&self) {
+        let mut refusal = 255;
+        let bytes = self.ask_opened(&mut refusal);
+        show_shown(bytes, refusal);
+        io::write_all(1, b"\n");
+    }
+
+    fn string(&self, out: &mut [u8]) {
+        show_value(questions::string(self.db, self.ends, self.name, self.id, out));
+        io::write_all(1, b":");
+        show_bytes(out);
+        io::write_all(1, b"\n");
+    }
+
+    fn list(&self, out: &mut [u8]) {
+        let answer = listing::list(self.db, self.ends, self.name, out);
+        show_written(answer, out);
+    }
+
+    fn flat(&self, out: &mut [u8]) {
+        let answer = listing::flat(self.db, self.ends, self.name, out);
+        show_written(answer, out);
+    }
+
+    fn ask(&self, out: &mut [u8]) {
+        match self.operation {
+            b'p' => self.part(),
+            b's' => self.show(),
+            b'f' => self.flag(),
+            b'n' => self.number(),
+            b'o' => self.opened(),
+            b'S' => self.string(out),
+            b'L' => self.list(out),
+            _ => self.flat(out),
+        }
+    }
 }
 
 fn is_case(b: u8) -> bool {
-    match b {
-        b'p' | b's' | b'f' | b'n' | b'o' | b'S' | b'L' | b'F' => true,
-        _ => false,
-    }
+    matches!(b, b'p' | b's' | b'f' | b'n' | b'o' | b'S' | b'L' | b'F')
 }
 
 fn case_room(operation: u8, line: &[u8], buffer: &[u8]) -> usize
     ensures { IsPrefixLen result buffer.now }
 {
-    if operation == b'S' {
-        return room(line, 3, buffer);
-    }
-    room(line, 2, buffer)
-}
-
-fn ask(operation: u8, db: &[u8], ends: &[usize], name: &[u8], id: &[u8], out: &mut [u8]) {
-    match operation {
-        b'p' => case_part(db, ends, name),
-        b's' => case_show(db, ends, name),
-        b'f' => case_flag(db, ends, name, id),
-        b'n' => case_number(db, ends, name, id),
-        b'o' => case_opened(db, ends, name, id),
-        b'S' => case_string(db, ends, name, id, out),
-        b'L' => case_list(db, ends, name, out),
-        _ => case_flat(db, ends, name, out),
-    }
-}
-
-fn ask_in_room(operation: u8, line: &[u8], db: &[u8], name: &[u8], id: &[u8]) {
-    let mut out = [255u8; 64];
-    let most = case_room(operation, line, &out);
-    let ends = [db.len()];
-    ask(operation, db, &ends, name, id, &mut out[..most]);
+    let field = if operation == b'S' { 3 } else { 2 };
+    room(line, field, buffer)
 }
 
 fn run_case(operation: u8, line: &[u8], n: u64, db: &[u8]) {
@@ -212,10 +157,19 @@ fn run_case(operation: u8, line: &[u8], n: u64, db: &[u8]) {
     }
     let mut name = [0u8; 80];
     let mut id = [0u8; 8];
+    let mut out = [255u8; 64];
     let k = text(line, 1, &mut name);
     let m = text(line, 2, &mut id);
+    let most = case_room(operation, line, &out);
     io::print_decimal(1, n);
-    ask_in_room(operation, line, db, &name[..k], &id[..m]);
+    let case = Case {
+        operation,
+        db,
+        ends: &[db.len()],
+        name: &name[..k],
+        id: &id[..m],
+    };
+    case.ask(&mut out[..most]);
 }
 
 // Answers how much of the space the database takes then.
@@ -223,33 +177,23 @@ fn run_line(line: &[u8], n: u64, space: &mut [u8], used: usize) -> usize
     requires { used ≤ length space.old }
     ensures { result ≤ length space.new }
 {
-    if line.len() == 0 {
-        return used;
-    }
-    match line[0] {
-        b'=' => 0,
-        b'>' => add_line(&line[1..], space, used),
-        b'+' => add_bytes(&line[1..], space, used),
-        b'*' => add_copies(line, space, used),
-        b => {
-            run_case(b, line, n, &space[..used]);
+    match line {
+        [b'=', ..] => 0,
+        [b'>', bytes @ ..] => add_line(bytes, space, used),
+        [b'+', bytes @ ..] => add_bytes(bytes, space, used),
+        [b'*', b, ..] => add_copies(*b, number(line, 1) as usize, space, used),
+        [operation, ..] => {
+            run_case(*operation, line, n, &space[..used]);
             used
         }
+        [] => used,
     }
 }
 
 fn run(cases: &[u8], space: &mut [u8]) {
     let mut used = 0;
-    let mut at = 0;
-    let mut n: u64 = 0;
-    while at < cases.len() {
-        let end = find(cases, at, b'\n');
-        n += 1;
-        used = run_line(&cases[at..end], n, space, used);
-        if end == cases.len() {
-            return;
-        }
-        at = end + 1;
+    for (i, line) in cases.split(|b| *b == b'\n').enumerate() {
+        used = run_line(line, i as u64 + 1, space, used);
     }
 }
 

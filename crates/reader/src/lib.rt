@@ -8,7 +8,7 @@ ghost use Rattle.spec.specs.Files.{files};
 ghost use Rattle.spec.specs.Answers.{answer_report};
 ghost use Rattle.spec.specs.Questions.{show_answer, show_report, OwnPart, flag_answer, flag_report, number_answer, number_report};
 
-use spec::Answer;
+use spec::Refusal;
 
 #[derive(Clone, Copy)]
 pub struct Reader<'a, 'e> {
@@ -33,26 +33,19 @@ pub fn show<'a, 'e>(r: Reader<'a, 'e>, name: &[u8], refusal: &mut u8) -> &'a [u8
     ensures { OwnPart r.entry.db (show_answer (files r.entry.db.now r.entry.ends.now) name.now) result
         × (refusal.new ≡ (show_report (files r.entry.db.now r.entry.ends.now) name.now).refusal) }
 {
-    let db = r.db;
-    let ends = r.ends;
-    let part = show::show(db, ends, name, refusal);
-    part
+    show::show(r.db, r.ends, name, refusal)
 }
 
-pub fn flag<'a, 'e>(r: Reader<'a, 'e>, name: &[u8], id: &[u8]) -> Answer
+pub fn flag<'a, 'e>(r: Reader<'a, 'e>, name: &[u8], id: &[u8]) -> Result<Option<u32>, Refusal>
     ensures { (result ≡ flag_answer (files r.entry.db.now r.entry.ends.now) name.now id.now)
         × (answer_report result ≡ flag_report (files r.entry.db.now r.entry.ends.now) name.now id.now) }
 {
-    let db = r.db;
-    let ends = r.ends;
-    questions::flag(db, ends, name, id)
+    questions::flag(r.db, r.ends, name, id)
 }
 
-pub fn number<'a, 'e>(r: Reader<'a, 'e>, name: &[u8], id: &[u8]) -> Answer
+pub fn number<'a, 'e>(r: Reader<'a, 'e>, name: &[u8], id: &[u8]) -> Result<Option<u32>, Refusal>
     ensures { (result ≡ number_answer (files r.entry.db.now r.entry.ends.now) name.now id.now)
         × (answer_report result ≡ number_report (files r.entry.db.now r.entry.ends.now) name.now id.now) }
 {
-    let db = r.db;
-    let ends = r.ends;
-    questions::number(db, ends, name, id)
+    questions::number(r.db, r.ends, name, id)
 }

@@ -1,13 +1,13 @@
 -- The laws of positions. Assumes nothing.
-use Prim.Native.Nat.{ℕ, ◌+◌, ◌≤◌, ◌<◌}
-use mathlib.Core.Path.{◌≡◌, refl}
+use Prim.Native.Nat.{ℕ, ◌+◌, ◌-◌, ◌≤◌, ◌<◌}
+use mathlib.Core.Path.{◌≡◌, refl, sym}
 use mathlib.Core.List.{List, [], ◌∷◌, ◌++◌}
 use native.Mathlib.Numerals.{add-one}
 use native.Mathlib.Omega.{arith}
 use borrow.Author.Tests.{eq-eqb, ne_eqb}
 use lib.Dec.{eqb}
-use lib.ListN.{length, take, get_or, length-take}
-use lib.Seq.{take-suc}
+use lib.ListN.{length, take, drop, get_or, length-take, length-drop}
+use lib.Seq.{take-suc, get_or-take, get_or-drop}
 use Rattle.laws.proofs.Tests.{pick_all}
 use Rattle.removal_notes.specs.declared.Position.{Position}
 use Rattle.removal_notes.specs.Notes.{behind, behind_all, position_at}
@@ -29,6 +29,19 @@ behind_last p (c ∷ l) b = behind_last (behind p c) l b
 pub position-next : (db : List ℕ) (at : ℕ) → at < length db → position_at db (at + 1) ≡ behind (position_at db at) (get_or db at 0)
 unfolding position_at
 position-next db at h = rw (add-one, take-suc db at 0 h) (behind_last _ (take at db) (get_or db at 0))
+
+-- the bytes of a stretch, one after the other
+module _ (db : List ℕ) (from to : ℕ) where
+  pub stretch_length : to ≤ length db → length (take (to - from) (drop from db)) ≡ to - from
+  stretch_length h = simp (length-take, length-drop) (omega arith)
+
+  pub position_on : (i : ℕ) → to ≤ length db → i < length (take (to - from) (drop from db))
+      → behind (position_at db (from + i)) (get_or (take (to - from) (drop from db)) i 0) ≡ position_at db (from + (i + 1))
+  position_on i h g =
+      let near : i < to - from = omega (arith, stretch_length h) in
+      let inside : from + i < length db = omega arith in
+      let next : from + (i + 1) ≡ from + i + 1 = omega arith in
+      rw (get_or-take (to - from) (drop from db) i 0 near, get_or-drop from db i 0, next) (sym (position-next db (from + i) inside))
 
 behind-within : (p : Position) (b m : ℕ) → p.row ≤ m → p.column ≤ m → ((behind p b).row ≤ m + 1) × ((behind p b).column ≤ m + 1)
 unfolding behind

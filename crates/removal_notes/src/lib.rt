@@ -7,7 +7,7 @@ ghost use Rattle.spec.specs.Lines.{text_at};
 ghost use Rattle.removal_notes.specs.Notes.{behind, position_at, position_of, text_from, place_of, Stands};
 ghost use Rattle.removal_notes.specs.Notes.{shown_byte, shown_bytes, shown, place_text, note, Put};
 
-use lines::{Step, peek};
+use lines::peek;
 use program_io::put_decimal;
 use stores::{put_byte, put_bytes};
 
@@ -44,8 +44,8 @@ fn next_position(p: Position, b: u8) -> Position
         };
     }
     Position {
-        row: p.row,
         column: p.column + 1,
+        ..p
     }
 }
 
@@ -56,10 +56,8 @@ fn move_on(db: &[u8], from: usize, to: usize, p: Position) -> Position
     ensures { result ≡ position_at db.now to }
 {
     let mut here = p;
-    let mut i = from;
-    while i < to {
-        here = next_position(here, db[i]);
-        i += 1;
+    for b in &db[from..to] {
+        here = next_position(here, *b);
     }
     here
 }
@@ -73,16 +71,17 @@ fn skip_lines(db: &[u8], at: usize, count: usize) -> usize
 {
     let mut p = at;
     let mut left = count;
+    // Not by `for`, which is no plainer: the count falls only where a line ends.
     while left > 0 {
         match peek(db, p) {
-            Step::Byte(b, n) => {
+            Some((b, n)) => {
                 p = n;
                 if b == b'\n' {
                     left -= 1;
                     continue;
                 }
             }
-            Step::End => return p,
+            None => return p,
         }
     }
     p
@@ -94,17 +93,15 @@ fn skip_bytes(db: &[u8], at: usize, count: usize) -> usize
     ensures { (text_at db.now result ≡ text_from 0 count (text_at db.now at)) × (at ≤ result) × (result ≤ length db.now) }
 {
     let mut p = at;
-    let mut left = count;
-    while left > 0 {
+    for _ in 0..count {
         match peek(db, p) {
-            Step::Byte(b, n) => {
+            Some((b, n)) => {
                 if b == b'\n' {
                     return p;
                 }
                 p = n;
-                left -= 1;
             }
-            Step::End => return p,
+            None => return p,
         }
     }
     p
@@ -118,13 +115,12 @@ fn advance(db: &[u8], from: Spot, lines: usize, bytes: usize, line: usize, place
 {
     let start = skip_lines(db, from.at, lines);
     let at = skip_bytes(db, start, bytes);
-    let old = from.position;
-    let position = move_on(db, from.at, at, old);
+    let position = move_on(db, from.at, at, from.position);
     Spot {
-        line: line,
-        place: place,
-        at: at,
-        position: position,
+        line,
+        place,
+        at,
+        position,
     }
 }
 
@@ -133,12 +129,11 @@ impl Spot {
     pub fn first(db: &[u8]) -> Spot
         ensures { Stands db.now result × (result.line ≡ 0) × (result.place ≡ 0) }
     {
-        let position = Position { row: 1, column: 1 };
         Spot {
             line: 0,
             place: 0,
             at: 0,
-            position: position,
+            position: Position { row: 1, column: 1 },
         }
     }
 }
@@ -151,10 +146,8 @@ pub fn find_spot(db: &[u8], from: Spot, line: usize, place: usize) -> Spot
     if from.line < line {
         return advance(db, from, line - from.line, place, line, place);
     }
-    if from.line == line {
-        if from.place <= place {
-            return advance(db, from, 0, place - from.place, line, place);
-        }
+    if from.line == line && from.place <= place {
+        return advance(db, from, 0, place - from.place, line, place);
     }
     advance(db, Spot::first(db), line, place, line, place)
 }
@@ -165,8 +158,8 @@ fn own_place(db: &[u8], at: usize) -> usize
     ensures { (result ≡ place_of (length db.now) (text_at db.now at)) × (at ≤ result) × (result ≤ length db.now) }
 {
     match peek(db, at) {
-        Step::Byte(_, n) => n - 1,
-        Step::End => db.len(),
+        Some((_, n)) => n - 1,
+        None => db.len(),
     }
 }
 
@@ -175,9 +168,7 @@ pub fn own_position(db: &[u8], s: Spot) -> Position
     requires { (length db.now ≤ 1048576) × Stands db.now s }
     ensures { result ≡ position_of db.now s.line s.place }
 {
-    let own = own_place(db, s.at);
-    let position = s.position;
-    move_on(db, s.at, own, position)
+    move_on(db, s.at, own_place(db, s.at), s.position)
 }
 
 // ---- the text of a note
@@ -185,10 +176,7 @@ pub fn own_position(db: &[u8], s: Spot) -> Position
 fn is_plain(b: u8) -> bool
     ensures { result ≡ between 32 126 b }
 {
-    if b < 32 {
-        return false;
-    }
-    b <= 126
+    matches!(b, b' '..=b'~')
 }
 
 // A byte, or a backslash and three octal digits.
@@ -210,16 +198,14 @@ fn put_joined(db: &[u8], from: usize, count: usize, out: &mut [u8], at: usize) -
     ensures { Put (shown_bytes count (text_at db.now from)) out.old at out.new result × (result ≤ at + 4 * count) }
 {
     let mut p = from;
-    let mut left = count;
     let mut end = at;
-    while left > 0 {
+    for _ in 0..count {
         match peek(db, p) {
-            Step::Byte(b, n) => {
+            Some((b, n)) => {
                 end = put_shown(out, end, b);
                 p = n;
-                left -= 1;
             }
-            Step::End => return end,
+            None => return end,
         }
     }
     end

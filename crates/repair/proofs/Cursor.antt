@@ -74,7 +74,8 @@ starts_above a (l ∷ ls) r i h =
     (starts_above a ls (rising-from a (suc l.start) ls (omega (arith, r.0)) r.1)) i h
 
 -- The first line has the first link, or none.
-first_start : (l : Line) (ls : List Line) → (link_starts (left (l ∷ ls)) ≡ l.start ∷ link_starts (left ls)) ⊎ (link_starts (left (l ∷ ls)) ≡ link_starts (left ls))
+first_start : (l : Line) (ls : List Line)
+    → (link_starts (left (l ∷ ls)) ≡ l.start ∷ link_starts (left ls)) ⊎ (link_starts (left (l ∷ ls)) ≡ link_starts (left ls))
 unfolding left
 first_start l ls = go (is_dropped l.text)
   where
@@ -113,7 +114,8 @@ pub cursor_first : (db ats : List ℕ) → ats ≡ link_starts (left (lines_of d
 unfolding lines_of
 cursor_first db ats e = record { coming = e; passed = λ i h. absurd (omega arith) }
 
-pub cursor_next : (db ats : List ℕ) (at k n : ℕ) → Behind db ats at k → later_lines (text_at db at) ≡ lines_from n (text_at db n) → at < n → Cursor db ats n k
+pub cursor_next : (db ats : List ℕ) (at k n : ℕ) → Behind db ats at k → later_lines (text_at db at) ≡ lines_from n (text_at db n) → at < n
+    → Cursor db ats n k
 cursor_next db ats at k n b e h =
     record { coming = b.coming ∙ ap (λ (ls : List Line). link_starts (left ls)) e; passed = λ i g. let p = b.passed i g in omega (arith, p) }
 

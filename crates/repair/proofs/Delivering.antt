@@ -1,5 +1,6 @@
 -- The outcome by the tests that the code makes.
 -- Assumes nothing.
+use Rattle.std.specs.Prelude.{Ok, Err}
 use Prim.Native.Nat.{ℕ, ◌*◌, ◌≤◌, ◌<◌}
 use mathlib.Core.Path.{◌≡◌, refl, ◌∙◌, sym}
 use mathlib.Core.Bool.{true, false}
@@ -10,26 +11,22 @@ use lib.ListN.{length, take}
 use lib.Seq.{length-take-le}
 use Rattle.spec.specs.Refusals.{too_large}
 use Rattle.spec.specs.declared.Refusal.TheVariants.{DatabaseTooLarge, NoRoom, TooManyLines}
-use Rattle.spec.specs.declared.Repaired.TheVariants.{Counts, Refused}
 use Rattle.spec.specs.Repair.{mended, flattened, not_repaired, put_mended, too_many_lines, repair_outcome}
 use Rattle.laws.proofs.Tests.{both_false}
 use Rattle.laws.proofs.Stores.{stored_front}
 use Rattle.laws.proofs.RecordRoom.{mended-sixteen}
-use Rattle.link_list.specs.declared.Listed.{Listed}
-use Rattle.link_list.specs.declared.Listed.TheVariants.{Links}
-use Rattle.link_list.specs.Listing.{Wanted, LinksListed}
-use Rattle.mended_lines.specs.declared.Amounts.{Amounts}
+use Rattle.spec.specs.declared.Amounts.{Amounts}
 use Rattle.mended_lines.specs.Lines.{LineMended}
 use Rattle.repair.specs.Answers.{Delivers}
 
 -- ---- 9
 
 module _ (db text records : List ℕ) where
-  pub text_full : length text < length (mended db).text → Delivers (put_mended (mended db) text records) (Refused NoRoom) text records
+  pub text_full : length text < length (mended db).text → Delivers (put_mended (mended db) text records) (Err NoRoom) text records
   unfolding put_mended
   text_full h = rw (lt-leb (length (mended db).text) (length text) h) (refl, refl, refl)
 
-  pub records_full : length records < length (mended db).records * 16 → Delivers (put_mended (mended db) text records) (Refused NoRoom) text records
+  pub records_full : length records < length (mended db).records * 16 → Delivers (put_mended (mended db) text records) (Err NoRoom) text records
   unfolding put_mended
   records_full h =
       let more : length records < length (flattened (mended db).records) = omega (arith, mended-sixteen db) in
@@ -37,7 +34,7 @@ module _ (db text records : List ℕ) where
 
   pub both-fit : length (mended db).text ≤ length text → length (mended db).records * 16 ≤ length records → (text' records' : List ℕ) (r : Amounts)
       → LineMended (mended db) text 0 text' records 0 records' r → (bytes count : ℕ) → bytes ≡ length (mended db).text → count ≡ length (mended db).records
-      → Delivers (put_mended (mended db) text records) (Counts bytes count) text' records'
+      → Delivers (put_mended (mended db) text records) (Ok (record { bytes = bytes; records = count })) text' records'
   unfolding put_mended
   both-fit h k text' records' r m bytes count e f =
       let fits : length (flattened (mended db).records) ≤ length records = omega (arith, mended-sixteen db) in
@@ -59,10 +56,6 @@ module _ (db text records : List ℕ) where
   not_refused h e = rw (le-ltb 1048576 (length db) h, e)
 
 -- ---- the links that are listed
-
-pub links_wanted : (db ats₀ names₀ ats names : List ℕ) (r : Listed) (n : ℕ) → r ≡ Links n → LinksListed db ats₀ names₀ ats names r
-    → Wanted db ats₀ names₀ ats names n
-links_wanted db ats₀ names₀ ats names r n e h = rw e at h
 
 -- Parts of lists of one length, up to one place.
 pub alike : (n : ℕ) (x y : List ℕ) → n ≤ length x → length y ≡ length x → length (take n y) ≡ length (take n x)

@@ -11,7 +11,7 @@ use Rattle.spec.specs.Repair.{lines_of, reason_at, link_removals, Mended, mend_l
 use Rattle.laws.proofs.Stores.{stored-append}
 use Rattle.laws.proofs.NoLonger.{mended-short}
 use Rattle.laws.proofs.RecordRoom.{flat_append, sixteen-line, mended-few}
-use Rattle.mended_lines.specs.declared.Amounts.{Amounts}
+use Rattle.spec.specs.declared.Amounts.{Amounts}
 use Rattle.mended_lines.specs.Lines.{LineMended}
 use Rattle.repair.specs.declared.LineReason.{LineReason}
 use Rattle.repair.specs.Answers.{Judged, ReasonFound}

@@ -1,9 +1,10 @@
 -- What the functions answer.
-use Rattle.std.specs.Prelude.{ℕ, ◌+◌, ◌≤◌, ◌<◌, ◌≡◌, ◌⊎◌, List, length, get_or}
+use Rattle.std.specs.Prelude.{ℕ, ◌+◌, ◌≤◌, ◌<◌, ◌≡◌, ◌⊎◌, List, length, get_or, Result}
 use Rattle.spec.specs.Repair.{lines_of, left, RepairOutcome}
-use Rattle.spec.specs.declared.Repaired.{Repaired}
 use Rattle.link_list.specs.Listing.{link_starts, Reasons}
 use Rattle.repair.specs.declared.LineReason.{LineReason}
+use Rattle.spec.specs.declared.Refusal.{Refusal}
+use Rattle.spec.specs.declared.Amounts.{Amounts}
 
 -- The links of a database of at most 1,048,576 bytes: where their lines start, and beside each place why the link is removed, or 0.
 pub record Judged (db ats reasons : List ℕ) : Type 0 where
@@ -19,5 +20,5 @@ ReasonFound ats reasons k at r =
     ⊎ ((k < length ats → get_or ats k 0 ≡ at → ⊥) × (r.reason ≡ 0) × (r.next ≡ k))
 
 -- An answer, and both buffers afterwards, as an outcome has them.
-abbrev pub Delivers : RepairOutcome → Repaired → List ℕ → List ℕ → Type 0
+abbrev pub Delivers : RepairOutcome → Result Amounts Refusal → List ℕ → List ℕ → Type 0
 Delivers o r text records = (r ≡ o.answer) × (text ≡ o.text) × (records ≡ o.records)

@@ -9,13 +9,14 @@ ghost use Rattle.link_list.specs.Listing.{link_starts, link_names, names_at};
 ghost use Rattle.mended_lines.specs.Lines.{LineMended};
 ghost use Rattle.repair.specs.Answers.{Judged, ReasonFound, Delivers};
 
-use lines::{Next, next_line};
-use link_list::{Listed, find_reasons, list_links};
+use lines::next_line;
+use link_list::{find_reasons, list_links};
 use mended_fields::RECORD_SIZE;
-use mended_lines::{Amounts, mend_line};
-use spec::{MOST_BYTES, MOST_LINES, Refusal, Repaired};
+use mended_lines::mend_line;
+use spec::{Amounts, MOST_BYTES, MOST_LINES, Refusal};
 
-// Why the link of a line is removed, 0 if it stays or there is none, and the number of the next link.
+// Why the link of a line is removed, 0 if it stays or there is none, and the number of the next link. A number: `mend_line` and the records
+// have it as one, and its contract tells 0 for a link that stays.
 #[derive(Clone, Copy)]
 pub struct LineReason {
     pub reason: u8,
@@ -27,15 +28,14 @@ fn line_reason(ats: &[usize], reasons: &[u8], k: usize, at: usize) -> LineReason
     requires { length reasons.now ≡ length ats.now }
     ensures { ReasonFound ats.now reasons.now k at result }
 {
-    if k < ats.len() {
-        if ats[k] == at {
-            return LineReason {
-                reason: reasons[k],
-                next: k + 1,
-            };
+    if k < ats.len() && ats[k] == at {
+        LineReason {
+            reason: reasons[k],
+            next: k + 1,
         }
+    } else {
+        LineReason { reason: 0, next: k }
     }
-    LineReason { reason: 0, next: k }
 }
 
 // Mends all lines, one after the other. What has no room is not stored.
@@ -69,14 +69,14 @@ fn mend_lines(
         bytes += amounts.bytes;
         count += amounts.records;
         match next_line(db, at) {
-            Next::To(next) => {
+            Some(next) => {
                 at = next;
                 number += 1;
                 k = line.next;
             }
-            Next::Last => {
+            None => {
                 return Amounts {
-                    bytes: bytes,
+                    bytes,
                     records: count,
                 };
             }
@@ -101,22 +101,21 @@ fn put_mended(
     reasons: &[u8],
     text: &mut [u8],
     records: &mut [u8],
-) -> Repaired
+) -> Result<Amounts, Refusal>
     requires { Judged db.now ats.now reasons.now }
     ensures { Delivers (put_mended (mended db.now) text.old records.old) result text.new records.new }
 {
     let need = measure(db, ats, reasons);
-    if need.bytes > text.len() {
-        return Repaired::Refused(Refusal::NoRoom);
-    }
-    if need.records * RECORD_SIZE > records.len() {
-        return Repaired::Refused(Refusal::NoRoom);
+    let most = records.len() / RECORD_SIZE;
+    if need.bytes > text.len() || need.records > most {
+        return Err(Refusal::NoRoom);
     }
     mend_lines(db, ats, reasons, text, records);
-    Repaired::Counts(need.bytes, need.records)
+    Ok(need)
 }
 
-// The links are listed; `names` and `tos` are room to work in.
+// The links are listed; `names` and `tos` are room to work in. Four lists and no struct: `find_reasons` is lent each of them by itself, two to
+// be written anew and one to be read, and only here do the four stand together.
 fn repair_listed(
     db: &[u8],
     ats: &[usize],
@@ -125,7 +124,7 @@ fn repair_listed(
     reasons: &mut [u8],
     text: &mut [u8],
     records: &mut [u8],
-) -> Repaired
+) -> Result<Amounts, Refusal>
     requires db_len_bound { length db.now ≤ 1048576 }
     requires ats_value { ats.now ≡ link_starts (left (lines_of db.now)) }
     requires names_value { names_at db.now names.old ≡ link_names (left (lines_of db.now)) }
@@ -138,25 +137,17 @@ fn repair_listed(
     put_mended(db, ats, reasons, text, records)
 }
 
-// A database that is small enough, with room for the links of all its lines.
-fn repair_with(
-    db: &[u8],
-    ats: &mut [usize],
-    names: &mut [usize],
-    tos: &mut [usize],
-    reasons: &mut [u8],
-    text: &mut [u8],
-    records: &mut [u8],
-) -> Repaired
-    requires db_len_bound { length db.now ≤ 1048576 }
-    requires ats_len { length ats.old ≡ 4096 }
-    requires names_len { length names.old ≡ 4096 }
-    requires tos_len { length tos.old ≡ 4096 }
-    requires reasons_len { length reasons.old ≡ 4096 }
+// A database that is small enough, with room for the links of all its lines: 100 KB of the stack.
+fn repair_small(db: &[u8], text: &mut [u8], records: &mut [u8]) -> Result<Amounts, Refusal>
+    requires { length db.now ≤ 1048576 }
     ensures { Delivers (repair_outcome db.now text.old records.old) result text.new records.new }
 {
-    let Listed::Links(n) = list_links(db, ats, names) else {
-        return Repaired::Refused(Refusal::TooManyLines);
+    let mut ats = [0usize; MOST_LINES];
+    let mut names = [0usize; MOST_LINES];
+    let mut tos = [0usize; MOST_LINES];
+    let mut reasons = [0u8; MOST_LINES];
+    let Some(n) = list_links(db, &mut ats, &mut names) else {
+        return Err(Refusal::TooManyLines);
     };
     repair_listed(
         db,
@@ -169,36 +160,16 @@ fn repair_with(
     )
 }
 
-// The same with that room: 100 KB of the stack.
-fn repair_small(db: &[u8], text: &mut [u8], records: &mut [u8]) -> Repaired
-    requires { length db.now ≤ 1048576 }
-    ensures { Delivers (repair_outcome db.now text.old records.old) result text.new records.new }
-{
-    let mut ats = [0usize; MOST_LINES];
-    let mut names = [0usize; MOST_LINES];
-    let mut tos = [0usize; MOST_LINES];
-    let mut reasons = [0u8; MOST_LINES];
-    repair_with(
-        db,
-        &mut ats,
-        &mut names,
-        &mut tos,
-        &mut reasons,
-        text,
-        records,
-    )
-}
-
 // Writes the mended database to `text`, and a record of 16 bytes for each thing removed to `records`. The order of refusals is 3, 14, 9; a
 // refusal changes neither buffer.
-pub fn repair(db: &[u8], text: &mut [u8], records: &mut [u8]) -> Repaired
+pub fn repair(db: &[u8], text: &mut [u8], records: &mut [u8]) -> Result<Amounts, Refusal>
     ensures { (result ≡ (repair_outcome db.now text.old records.old).answer)
         × (repaired_report result ≡ repair_report db.now text.old records.old)
         × (text.new ≡ (repair_outcome db.now text.old records.old).text)
         × (records.new ≡ (repair_outcome db.now text.old records.old).records) }
 {
     if db.len() > MOST_BYTES {
-        return Repaired::Refused(Refusal::DatabaseTooLarge);
+        return Err(Refusal::DatabaseTooLarge);
     }
     repair_small(db, text, records)
 }

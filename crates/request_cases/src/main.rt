@@ -13,10 +13,10 @@ ghost use Rattle.std.specs.Prelude.{◌≤◌, max};
 ghost use Rattle.io.specs.Counts.{IsPrefixLen};
 
 use batch::batch;
-use case_lines::{find, room, show_bytes, show_refusal, show_written, text};
+use case_lines::{room, show_bytes, show_part, show_refusal, show_value, show_written, text};
 use repair::repair;
 use spec::finder::Finder;
-use spec::{Answer, Repaired, Searched, Shown};
+use spec::{Amounts, Refusal, Tally};
 
 fn case_batch(line: &[u8], out: &mut [u8]) {
     let mut db = [0u8; 256];
@@ -32,15 +32,15 @@ fn case_batch(line: &[u8], out: &mut [u8]) {
     );
 }
 
-fn show_repaired(answer: Repaired) {
+fn show_repaired(answer: Result<Amounts, Refusal>) {
     match answer {
-        Repaired::Counts(bytes, records) => {
+        Ok(Amounts { bytes, records }) => {
             io::write_all(1, b" ok ");
             io::print_decimal(1, bytes as u64);
             io::write_all(1, b" ");
             io::print_decimal(1, records as u64);
         }
-        Repaired::Refused(r) => show_refusal(r.number()),
+        Err(r) => show_refusal(r.number()),
     }
 }
 
@@ -57,65 +57,38 @@ fn case_repair(line: &[u8], out: &mut [u8], records: &mut [u8]) {
 
 // ---- Asks 5 and 6: several files, and the search that counts
 
-fn show_part(answer: Shown) {
+fn show_searched(answer: Result<Tally, Refusal>) {
     match answer {
-        Shown::Part(from, to) => {
-            io::write_all(1, b" part ");
-            io::print_decimal(1, from as u64);
-            io::write_all(1, b" ");
-            io::print_decimal(1, to as u64);
-        }
-        Shown::Refused(r) => show_refusal(r.number()),
-    }
-    io::write_all(1, b"\n");
-}
-
-fn show_flag(answer: Answer) {
-    match answer {
-        Answer::Present(v) => {
-            io::write_all(1, b" present ");
-            io::print_decimal(1, v as u64);
-        }
-        Answer::Absent => {
-            io::write_all(1, b" absent");
-        }
-        Answer::Refused(r) => show_refusal(r.number()),
-    }
-    io::write_all(1, b"\n");
-}
-
-fn show_searched(answer: Searched) {
-    match answer {
-        Searched::Found(n) => {
+        Ok(
+            Tally {
+                found: true,
+                compared: n,
+            },
+        ) => {
             io::write_all(1, b" found ");
             io::print_decimal(1, n as u64);
         }
-        Searched::Missing(n) => {
+        Ok(
+            Tally {
+                found: false,
+                compared: n,
+            },
+        ) => {
             io::write_all(1, b" missing ");
             io::print_decimal(1, n as u64);
         }
-        Searched::Refused(r) => show_refusal(r.number()),
+        Err(r) => show_refusal(r.number()),
     }
-    io::write_all(1, b"\n");
-}
-
-fn wide(b: u8) -> usize {
-    b as usize
 }
 
 // As many ends as there is space for.
 fn read_ends(bytes: &[u8], ends: &mut [usize]) -> usize
     ensures { IsPrefixLen result ends.new }
 {
-    let mut n = 0;
-    while n < bytes.len() {
-        if n == ends.len() {
-            return n;
-        }
-        ends[n] = wide(bytes[n]);
-        n += 1;
+    for (end, b) in ends.iter_mut().zip(bytes) {
+        *end = *b as usize;
     }
-    n
+    bytes.len().min(ends.len())
 }
 
 fn ask_files(operation: u8, line: &[u8], db: &[u8], ends: &[usize], out: &mut [u8]) {
@@ -126,12 +99,14 @@ fn ask_files(operation: u8, line: &[u8], db: &[u8], ends: &[usize], out: &mut [u
     match operation {
         b'p' => show_part(show::show_part(db, ends, &name[..k])),
         b's' => show_searched(name_count::search(db, ends, &name[..k])),
-        b'f' => show_flag(questions::flag(db, ends, &name[..k], &id[..m])),
+        b'f' => show_value(questions::flag(db, ends, &name[..k], &id[..m])),
         _ => {
             let answer = listing::list(db, ends, &name[..k], out);
             show_written(answer, out);
+            return;
         }
     }
+    io::write_all(1, b"\n");
 }
 
 fn case_files(operation: u8, line: &[u8], out: &mut [u8]) {
@@ -150,37 +125,18 @@ fn case_files(operation: u8, line: &[u8], out: &mut [u8]) {
 fn next_cut(b: u8, at: usize, end: usize) -> usize
     ensures { (at ≤ result) × (result ≤ max at end) }
 {
-    let to = wide(b);
-    if to < at {
-        return at;
-    }
-    if to > end {
-        return at;
-    }
-    to
+    let to = b as usize;
+    if (at..=end).contains(&to) { to } else { at }
 }
 
-fn feed_blocks(f: Finder, file: &[u8], cuts: &[u8], collected: &mut [u8]) -> Finder {
-    let mut g = f;
+fn feed_blocks(finder: &mut Finder, file: &[u8], cuts: &[u8], collected: &mut [u8]) {
     let mut at = 0;
-    let mut i = 0;
-    while i < cuts.len() {
-        let to = next_cut(cuts[i], at, file.len());
-        let t = finder::feed(g, &file[at..to], collected);
-        g = t.finder;
+    for b in cuts {
+        let to = next_cut(*b, at, file.len());
+        let _ = finder::feed(finder, &file[at..to], collected);
         at = to;
-        i += 1;
     }
-    let t = finder::feed(g, &file[at..], collected);
-    t.finder
-}
-
-fn end_for(operation: u8, f: Finder, collected: &mut [u8]) -> Finder {
-    if operation == b'e' {
-        return f;
-    }
-    let t = finder::end(f, collected);
-    t.finder
+    let _ = finder::feed(finder, &file[at..], collected);
 }
 
 fn case_blocks(operation: u8, line: &[u8], collected: &mut [u8], out: &mut [u8]) {
@@ -190,77 +146,57 @@ fn case_blocks(operation: u8, line: &[u8], collected: &mut [u8], out: &mut [u8])
     let n = text(line, 1, &mut file);
     let k = text(line, 2, &mut cuts);
     let m = text(line, 3, &mut name);
-    let opened = finder::open(&name[..m]);
-    if opened.refusal != 0 {
-        show_refusal((opened.refusal % 256) as u8);
+    let (mut finder, opened) = finder::open(&name[..m]);
+    if let Err(refusal) = opened {
+        show_refusal(refusal.number());
         io::write_all(1, b"\n");
         return;
     }
-    let first = opened.finder;
-    let fed = feed_blocks(first, &file[..n], &cuts[..k], collected);
-    let last = end_for(operation, fed, collected);
-    show_written(finder::answer(last, collected, out), out);
-}
-
-fn is_of_blocks(b: u8) -> bool {
-    match b {
-        b'c' | b'e' => true,
-        _ => false,
+    feed_blocks(&mut finder, &file[..n], &cuts[..k], collected);
+    if operation != b'e' {
+        let _ = finder::end(&mut finder, collected);
     }
-}
-
-fn is_of_files(b: u8) -> bool {
-    match b {
-        b'p' | b's' | b'f' | b'l' => true,
-        _ => false,
-    }
+    show_written(finder::answer(finder, collected, out), out);
 }
 
 fn run_line(line: &[u8], n: u64) {
-    if line.len() == 0 {
-        return;
-    }
     let mut out = [255u8; 64];
     let mut records = [255u8; 64];
-    let operation = line[0];
-    if is_of_files(operation) {
-        let most = room(line, 4, &out);
-        io::print_decimal(1, n);
-        case_files(operation, line, &mut out[..most]);
-        return;
-    }
-    if is_of_blocks(operation) {
-        let most_text = room(line, 4, &records);
-        let most = room(line, 5, &out);
-        io::print_decimal(1, n);
-        case_blocks(operation, line, &mut records[..most_text], &mut out[..most]);
-        return;
-    }
-    if operation == b'b' {
-        let most = room(line, 4, &out);
-        io::print_decimal(1, n);
-        case_batch(line, &mut out[..most]);
-        return;
-    }
-    if operation == b'r' {
-        let most = room(line, 2, &out);
-        let most_records = room(line, 3, &records);
-        io::print_decimal(1, n);
-        case_repair(line, &mut out[..most], &mut records[..most_records]);
+    match line.first() {
+        Some(operation @ (b'p' | b's' | b'f' | b'l')) => {
+            let most = room(line, 4, &out);
+            io::print_decimal(1, n);
+            case_files(*operation, line, &mut out[..most]);
+        }
+        Some(operation @ (b'c' | b'e')) => {
+            let most_text = room(line, 4, &records);
+            let most = room(line, 5, &out);
+            io::print_decimal(1, n);
+            case_blocks(
+                *operation,
+                line,
+                &mut records[..most_text],
+                &mut out[..most],
+            );
+        }
+        Some(b'b') => {
+            let most = room(line, 4, &out);
+            io::print_decimal(1, n);
+            case_batch(line, &mut out[..most]);
+        }
+        Some(b'r') => {
+            let most = room(line, 2, &out);
+            let most_records = room(line, 3, &records);
+            io::print_decimal(1, n);
+            case_repair(line, &mut out[..most], &mut records[..most_records]);
+        }
+        _ => {}
     }
 }
 
 fn run(cases: &[u8]) {
-    let mut at = 0;
-    let mut n: u64 = 0;
-    while at < cases.len() {
-        let end = find(cases, at, b'\n');
-        n += 1;
-        run_line(&cases[at..end], n);
-        if end == cases.len() {
-            return;
-        }
-        at = end + 1;
+    for (i, line) in cases.split(|b| *b == b'\n').enumerate() {
+        run_line(line, i as u64 + 1);
     }
 }
 

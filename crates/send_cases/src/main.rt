@@ -7,10 +7,10 @@
 // buffer has as many bytes as the room says, at most 64, and holds 255 in each before the call.
 #![tactic(auto)]
 
-use case_lines::{byte, find, number, room, show_bytes, show_refusal, show_written, text};
-use spec::{Fill, Written};
+use case_lines::{byte, number, room, show_bytes, show_refusal, show_written, text};
+use spec::{Finished, Refusal};
 
-fn call_at(line: &[u8], out: &mut [u8]) -> Written {
+fn call_at(line: &[u8], out: &mut [u8]) -> Result<usize, Refusal> {
     let mut command = [0u8; 256];
     let mut back = [0u8; 16];
     let mut up = [0u8; 16];
@@ -30,7 +30,7 @@ fn call_at(line: &[u8], out: &mut [u8]) -> Written {
     )
 }
 
-fn call_send(line: &[u8], out: &mut [u8]) -> Written {
+fn call_send(line: &[u8], out: &mut [u8]) -> Result<usize, Refusal> {
     let mut command = [0u8; 256];
     let n = text(line, 1, &mut command);
     sending::send(
@@ -42,7 +42,7 @@ fn call_send(line: &[u8], out: &mut [u8]) -> Written {
     )
 }
 
-fn call_fill(line: &[u8], out: &mut [u8]) -> Fill {
+fn call_fill(line: &[u8], out: &mut [u8]) -> Result<Finished, Refusal> {
     let mut command = [0u8; 256];
     let mut back = [0u8; 16];
     let mut up = [0u8; 16];
@@ -59,7 +59,7 @@ fn call_fill(line: &[u8], out: &mut [u8]) -> Fill {
     )
 }
 
-fn call_pad(line: &[u8], out: &mut [u8]) -> Written {
+fn call_pad(line: &[u8], out: &mut [u8]) -> Result<usize, Refusal> {
     let mut bytes = [0u8; 256];
     let n = text(line, 3, &mut bytes);
     sending::pad(
@@ -73,36 +73,26 @@ fn call_pad(line: &[u8], out: &mut [u8]) -> Written {
     )
 }
 
-fn show_filled(answer: Fill) {
+fn show_filled(answer: Result<Finished, Refusal>) {
     match answer {
-        Fill::Finished(f) => {
+        Ok(f) => {
             io::write_all(1, b" ok ");
             io::print_decimal(1, f.delay as u64);
-            if f.star {
-                io::write_all(1, b" 1 ");
-            } else {
-                io::write_all(1, b" 0 ");
-            }
+            io::write_all(1, b" ");
+            io::print_decimal(1, f.star as u64);
+            io::write_all(1, b" ");
             io::print_decimal(1, f.count as u64);
         }
-        Fill::Refused(r) => show_refusal(r.number()),
+        Err(r) => show_refusal(r.number()),
     }
 }
 
-fn case_at(line: &[u8], n: u64, out: &mut [u8]) {
-    let answer = call_at(line, out);
+fn show_case(n: u64, answer: Result<usize, Refusal>, out: &[u8]) {
     io::print_decimal(1, n);
     show_written(answer, out);
 }
 
-fn case_send(line: &[u8], n: u64, out: &mut [u8]) {
-    let answer = call_send(line, out);
-    io::print_decimal(1, n);
-    show_written(answer, out);
-}
-
-fn case_fill(line: &[u8], n: u64, out: &mut [u8]) {
-    let answer = call_fill(line, out);
+fn show_fill(n: u64, answer: Result<Finished, Refusal>, out: &[u8]) {
     io::print_decimal(1, n);
     show_filled(answer);
     io::write_all(1, b":");
@@ -110,49 +100,32 @@ fn case_fill(line: &[u8], n: u64, out: &mut [u8]) {
     io::write_all(1, b"\n");
 }
 
-fn case_pad(line: &[u8], n: u64, out: &mut [u8]) {
-    let answer = call_pad(line, out);
-    io::print_decimal(1, n);
-    show_written(answer, out);
-}
-
 fn run_line(line: &[u8], n: u64) {
-    if line.len() == 0 {
-        return;
-    }
     let mut out = [255u8; 64];
-    match line[0] {
-        b'a' => {
+    match line.first() {
+        Some(b'a') => {
             let most = room(line, 9, &out);
-            case_at(line, n, &mut out[..most]);
+            show_case(n, call_at(line, &mut out[..most]), &out[..most]);
         }
-        b's' => {
+        Some(b's') => {
             let most = room(line, 5, &out);
-            case_send(line, n, &mut out[..most]);
+            show_case(n, call_send(line, &mut out[..most]), &out[..most]);
         }
-        b'f' => {
+        Some(b'f') => {
             let most = room(line, 6, &out);
-            case_fill(line, n, &mut out[..most]);
+            show_fill(n, call_fill(line, &mut out[..most]), &out[..most]);
         }
-        b'p' => {
+        Some(b'p') => {
             let most = room(line, 7, &out);
-            case_pad(line, n, &mut out[..most]);
+            show_case(n, call_pad(line, &mut out[..most]), &out[..most]);
         }
         _ => {}
     }
 }
 
 fn run(cases: &[u8]) {
-    let mut at = 0;
-    let mut n: u64 = 0;
-    while at < cases.len() {
-        let end = find(cases, at, b'\n');
-        n += 1;
-        run_line(&cases[at..end], n);
-        if end == cases.len() {
-            return;
-        }
-        at = end + 1;
+    for (i, line) in cases.split(|b| *b == b'\n').enumerate() {
+        run_line(line, i as u64 + 1);
     }
 }
 

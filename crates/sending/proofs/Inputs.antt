@@ -12,7 +12,9 @@ use Rattle.spec.specs.Sending.{good_speed, good_place}
 use Rattle.spec.specs.Position.{fill_in}
 use Rattle.laws.proofs.Tests.{pick-told, both_true}
 use Rattle.sending.specs.Steps.{CommandJudged, held_for, filled_for}
-use Rattle.sending.specs.declared.Judged.{Judged}
+use Rattle.std.specs.Prelude.{Result}
+use Rattle.spec.specs.declared.Refusal.{Refusal}
+use Rattle.padding.specs.declared.Prefix.{Prefix}
 
 pub speed_in_range : (lines speed : ℕ) → good_speed lines speed ≡ true → (lines ≤ 1000) × (speed ≤ 115200)
 speed_in_range lines speed e =
@@ -41,11 +43,11 @@ held_plainly : (n : ℕ) → n ≤ 9999 → held_for n ≡ 32768 + n
 held_plainly n h = let l : n ≤ 32767 = omega arith in rw (le-leb _ _ l)
 
 module _ (row column h k : ℕ) (eh : h ≡ held_for row) (ek : k ≡ held_for column) where
-  pub place-judged : (cmd : List ℕ) (t : Bool) (x y : Judged) → t ≡ both (leb h 42767) (leb k 42767) → x ≡ y → CommandJudged cmd t x
-      → CommandJudged cmd (good_place row column) y
-  place-judged cmd t x y et ex j =
+  pub place-judged : (cmd : List ℕ) (t : Bool) (x : Result Prefix Refusal) → t ≡ both (leb h 42767) (leb k 42767) → CommandJudged cmd t x
+      → CommandJudged cmd (good_place row column) x
+  place-judged cmd t x et j =
       let held : t ≡ good_place row column = et ∙ rw (eh, ek, good-held row, good-held column) in
-      rw (← held, ← ex) j
+      rw (← held) j
 
   pub filled-held : (cmd back up : List ℕ) → row ≤ 9999 → column ≤ 9999 → filled_for cmd (record { 0 = h }) (record { 0 = k }) back up ≡ fill_in cmd row column
       back up

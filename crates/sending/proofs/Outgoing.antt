@@ -9,35 +9,18 @@ use Rattle.spec.specs.Choice.{pick}
 use Rattle.spec.specs.Padding.{Prefix, Split, prefix_of, delay_for, pad_count}
 use Rattle.spec.specs.Position as Position
 use Rattle.spec.specs.Position.{body, fault, fill_in}
-use Rattle.spec.specs.Sending.{
-  Prepared,
-  refused,
-  with_bytes,
-  filled_in,
-  prepared,
-  prepared_at,
-  sends,
-  stops,
-  pads_of,
-  padded,
-  good_speed,
-  good_place,
-  delivered,
-  filled_answer,
-  filled_into,
-  handed,
-}
+use Rattle.spec.specs.Sending.{refused, with_bytes, filled_in, prepared, prepared_at, sends, stops, pads_of, padded, good_speed, good_place, delivered, filled_answer, filled_into, handed}
 use Rattle.laws.proofs.PaddingLaws.{Splits, delay-below}
 use Rattle.position.proofs.FillSteps.{part, part_is}
 use Rattle.padding.specs.Reading.{PrefixRead}
-use Rattle.padding.specs.declared.Prefix.TheVariants.{Split as SplitAt}
+use Rattle.padding.specs.declared.Prefix.{Prefix as ReadPrefix}
 use Rattle.sending.specs.Steps.{CommandJudged, apart, fault_or, with_pads}
-use Rattle.sending.specs.declared.Judged.TheVariants.{Body, Refused}
+use Rattle.std.specs.Prelude.{Ok, Err}
 use Rattle.spec.specs.declared.Refusal.{Refusal}
 use Rattle.spec.specs.declared.Refusal.TheVariants.{OutOfRange}
 
-pub delay-small : (cmd : List ℕ) (delay : ℕ) (star : Bool) (from : ℕ) → PrefixRead cmd (SplitAt delay star from) → delay < 100000
-delay-small cmd delay star from r = subst (Splits (λ (p : Split). p.delay < 100000)) r.0 (delay-below cmd)
+pub delay-small : (cmd : List ℕ) (p : ReadPrefix) → PrefixRead cmd (Ok p) → p.delay < 100000
+delay-small cmd p r = subst (Splits (λ (q : Split). q.delay < 100000)) r.0 (delay-below cmd)
 
 -- ---- Send
 
@@ -94,30 +77,33 @@ body-alone p (fault r) out = refl
 -- ---- Send at and its first half, by what the command was judged to be
 
 module _ (cmd : List ℕ) (row column : ℕ) (back up : List ℕ) where
-  pub at-refused : (r : Refusal) → CommandJudged cmd (good_place row column) (Refused r) → prepared_at cmd row column back up ≡ refused r
+  pub at-refused : (r : Refusal) → CommandJudged cmd (good_place row column) (Err r) → prepared_at cmd row column back up ≡ refused r
   unfolding prepared_at
   at-refused r = go (good_place row column)
     where
-      go : (t : Bool) → CommandJudged cmd t (Refused r) → pick t (filled_in (prefix_of cmd) row column back up) (refused OutOfRange) ≡ refused r
-      go true j = rw (j.1, j.0)
+      go : (t : Bool) → CommandJudged cmd t (Err r) → pick t (filled_in (prefix_of cmd) row column back up) (refused OutOfRange) ≡ refused r
+      go true j = rw j
       go false j = ap refused (sym j)
 
-  module _ (delay : ℕ) (star : Bool) (from : ℕ) (j : CommandJudged cmd (good_place row column) (Body delay star from)) where
+  module _ (p : ReadPrefix) (j : CommandJudged cmd (good_place row column) (Ok p)) where
     abbrev Filled : Position.Body
-    Filled = fill_in (part cmd from) row column back up
+    Filled = fill_in (part cmd p.from) row column back up
 
-    at_split : prepared_at cmd row column back up ≡ with_bytes (record { delay = delay; star = star; body = drop from cmd }) Filled
+    abbrev parted : Split
+    parted = record { delay = p.delay; star = p.star; body = drop p.from cmd }
+
+    at_split : prepared_at cmd row column back up ≡ with_bytes parted Filled
     unfolding prepared_at
-    at_split = rw (j.0, j.1, part_is cmd from)
+    at_split = rw (j.0, j.1, part_is cmd p.from)
 
     pub at_slow : (lines speed pad : ℕ) → good_speed lines speed ≡ false
         → padded (prepared_at cmd row column back up) lines speed pad ≡ stops (fault_or Filled)
-    at_slow lines speed pad s = rw at_split (body_slow (record { delay = delay; star = star; body = drop from cmd }) Filled lines speed pad s)
+    at_slow lines speed pad s = rw at_split (body_slow parted Filled lines speed pad s)
 
     pub at_fast : (lines speed pad : ℕ) → good_speed lines speed ≡ true
-        → padded (prepared_at cmd row column back up) lines speed pad ≡ with_pads Filled (pad_count (delay_for delay star lines) speed) pad
-    at_fast lines speed pad s = rw at_split (body_fast (record { delay = delay; star = star; body = drop from cmd }) Filled lines speed pad s)
+        → padded (prepared_at cmd row column back up) lines speed pad ≡ with_pads Filled (pad_count (delay_for p.delay p.star lines) speed) pad
+    at_fast lines speed pad s = rw at_split (body_fast parted Filled lines speed pad s)
 
     pub at-alone : (out : List ℕ) → filled_into (prepared_at cmd row column back up) out
-        ≡ record { answer = filled_answer delay star (delivered (with_pads Filled 0 0) out).answer; buffer = (delivered (with_pads Filled 0 0) out).buffer }
-    at-alone out = rw at_split (body-alone (record { delay = delay; star = star; body = drop from cmd }) Filled out)
+        ≡ record { answer = filled_answer p.delay p.star (delivered (with_pads Filled 0 0) out).answer; buffer = (delivered (with_pads Filled 0 0) out).buffer }
+    at-alone out = rw at_split (body-alone parted Filled out)

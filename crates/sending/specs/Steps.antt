@@ -1,9 +1,9 @@
 -- What the steps of Send, Send at and its two halves answer, by the cases of their answers.
-use Rattle.std.specs.Prelude.{ℕ, ◌+◌, ◌≤◌, ◌<◌, ◌≡◌, Bool, true, List, ◌++◌, leb, length, drop, replicate}
+use Rattle.std.specs.Prelude.{ℕ, ◌+◌, ◌≤◌, ◌<◌, ◌≡◌, Bool, true, List, ◌++◌, leb, length, drop, replicate, Result, Ok, Err}
 use Rattle.spec.specs.Choice.{pick}
 use Rattle.spec.specs.Padding.{split, refused, prefix_of}
 use Rattle.spec.specs.declared.Refusal.{Refusal}
-use Rattle.spec.specs.declared.Refusal.TheVariants.{OutOfRange, BadPadding}
+use Rattle.spec.specs.declared.Refusal.TheVariants.{OutOfRange}
 use Rattle.spec.specs.Position.{body, fault, plain_of, raising_for, compensated}
 use Rattle.spec.specs.declared.position.Row.{Row}
 use Rattle.spec.specs.declared.position.Column.{Column}
@@ -11,18 +11,16 @@ use Rattle.spec.specs.declared.position.Parameter.TheVariants.{Row as OfRow, Col
 use Rattle.spec.specs.declared.position.Parameters.TheVariants.{TwoUnused}
 use Rattle.spec.specs.Position as Position
 use Rattle.spec.specs.Sending.{Prepared, finished, Outgoing, sends, stops}
-use Rattle.sending.specs.declared.Judged.{Judged}
-use Rattle.sending.specs.declared.Judged.TheVariants.{Body, Refused}
+use Rattle.padding.specs.declared.Prefix.{Prefix}
 
 -- A command and whether its place is in range: 12, 13, or the prefix and where the body starts.
-abbrev pub CommandJudged : List ℕ → Bool → Judged → Type 0
-CommandJudged cmd in_range (Body delay star from) =
+abbrev pub CommandJudged : List ℕ → Bool → Result Prefix Refusal → Type 0
+CommandJudged cmd in_range (Ok p) =
     (in_range ≡ true)
-    × (prefix_of cmd ≡ split (record { delay = delay; star = star; body = drop from cmd }))
-    × (from ≤ length cmd)
-    × (delay < 100000)
-CommandJudged cmd in_range (Refused r) =
-    pick in_range ((r ≡ BadPadding) × (prefix_of cmd ≡ refused BadPadding)) (r ≡ OutOfRange)
+    × (prefix_of cmd ≡ split (record { delay = p.delay; star = p.star; body = drop p.from cmd }))
+    × (p.from ≤ length cmd)
+    × (p.delay < 100000)
+CommandJudged cmd in_range (Err r) = pick in_range (prefix_of cmd ≡ refused r) (r ≡ OutOfRange)
 
 -- The delay, its star and the finished bytes apart.
 abbrev pub apart : ℕ → Bool → List ℕ → Prepared

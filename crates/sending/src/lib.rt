@@ -11,11 +11,11 @@ ghost use Rattle.spec.specs.Sending.{good_speed, sends, padded, delivered, send_
 ghost use Rattle.spec.specs.Sending.{filled_answer, fill_outcome, fill_report, pad_outcome, pad_report};
 ghost use Rattle.sending.specs.Steps.{CommandJudged, apart, fault_or, with_pads, held_for, good_row, good_column, filled_for};
 
-use compensations::{FilledIn, fill_in};
+use compensations::fill_in;
 use padding::{Prefix, pad_count, read_prefix};
-use places::{ZERO, both_unused};
+use places::{Places, ZERO};
 use spec::position::{Column, Row};
-use spec::{Fill, Finished, Refusal, Written};
+use spec::{Finished, Refusal};
 
 // How the last row and the last column, 9,999, are held.
 const LAST: u16 = ZERO + 9999;
@@ -31,28 +31,17 @@ const TOP_SPEED: u64 = 115200;
 fn good_speed(lines: u64, speed: u64) -> bool
     ensures { result ≡ good_speed lines speed }
 {
-    if lines < 1 {
-        return false;
-    }
-    if lines > MOST_LINES {
-        return false;
-    }
-    speed <= TOP_SPEED
+    1 <= lines && lines <= MOST_LINES && speed <= TOP_SPEED
 }
 
-// The greatest value that a row or a column can have, and how it is held.
+// The greatest value that a row or a column can have.
 const GREATEST: u64 = 32767;
-
-const HELD_GREATEST: u16 = 65535;
 
 // A number that comes in, as a row or a column holds it. What is above 32,767 is held as that, which is out of range as well.
 fn held_for(n: u64) -> u16
     ensures { result ≡ held_for n }
 {
-    if n > GREATEST {
-        return HELD_GREATEST;
-    }
-    ZERO + n as u16
+    ZERO + n.min(GREATEST) as u16
 }
 
 // Row and column "each 0..9,999".
@@ -71,10 +60,7 @@ fn good_column(column: Column) -> bool
 fn good_place(row: Row, column: Column) -> bool
     ensures { result ≡ both (good_row row) (good_column column) }
 {
-    if !good_row(row) {
-        return false;
-    }
-    good_column(column)
+    good_row(row) && good_column(column)
 }
 
 // "Times lines if starred."
@@ -100,11 +86,7 @@ fn write_pads(room: &mut [u8], count: usize, pad: u8)
     requires { count ≤ length room.old }
     ensures { room.new ≡ replicate count pad ++ drop count room.old }
 {
-    let mut i = 0;
-    while i < count {
-        room[i] = pad;
-        i += 1;
-    }
+    room[..count].fill(pad);
 }
 
 // ---- Send
@@ -113,28 +95,24 @@ fn copy_front(bytes: &[u8], out: &mut [u8])
     requires { length bytes.now ≤ length out.old }
     ensures { out.new ≡ sets out.old 0 bytes.now }
 {
-    let mut i = 0;
-    while i < bytes.len() {
-        out[i] = bytes[i];
-        i += 1;
-    }
+    out[..bytes.len()].copy_from_slice(bytes);
 }
 
 // "Send copies percent signs unchanged."
-fn send_copied(bytes: &[u8], pads: usize, pad: u8, out: &mut [u8]) -> Written
+fn send_copied(bytes: &[u8], pads: usize, pad: u8, out: &mut [u8]) -> Result<usize, Refusal>
     ensures { (result ≡ (delivered (sends (bytes.now ++ replicate pads pad)) out.old).answer)
         × (out.new ≡ (delivered (sends (bytes.now ++ replicate pads pad)) out.old).buffer) }
 {
     let n = bytes.len();
     if n > out.len() {
-        return Written::Refused(Refusal::NoRoom);
+        return Err(Refusal::NoRoom);
     }
     if pads > out.len() - n {
-        return Written::Refused(Refusal::NoRoom);
+        return Err(Refusal::NoRoom);
     }
     copy_front(bytes, out);
     write_pads(&mut out[n..], pads, pad);
-    Written::Count(n + pads)
+    Ok(n + pads)
 }
 
 // Finished bytes and their delay: "then 12 for lines and speed, then 9".
@@ -146,36 +124,32 @@ fn pad_bytes(
     speed: u64,
     pad: u8,
     out: &mut [u8],
-) -> Written
+) -> Result<usize, Refusal>
     requires { delay < 100000 }
     ensures { (result ≡ (delivered (padded (apart delay star bytes.now) lines speed pad) out.old).answer)
         × (out.new ≡ (delivered (padded (apart delay star bytes.now) lines speed pad) out.old).buffer) }
 {
     if !good_speed(lines, speed) {
-        return Written::Refused(Refusal::OutOfRange);
+        return Err(Refusal::OutOfRange);
     }
     send_copied(bytes, pads_for(delay, star, lines, speed), pad, out)
 }
 
 // Send: "body and padding". "For plain Send 13, 12, 9."
-pub fn send(command: &[u8], lines: u64, speed: u64, pad: u8, out: &mut [u8]) -> Written
+pub fn send(
+    command: &[u8],
+    lines: u64,
+    speed: u64,
+    pad: u8,
+    out: &mut [u8],
+) -> Result<usize, Refusal>
     ensures { (result ≡ (send_outcome command.now lines speed pad out.old).answer)
         × (out.new ≡ (send_outcome command.now lines speed pad out.old).buffer)
         × (written_report result ≡ send_report command.now lines speed pad out.old) }
 {
-    let prefix = read_prefix(command);
-    match prefix {
-        Prefix::BadPadding => return Written::Refused(Refusal::BadPadding),
-        Prefix::Split(delay, star, from) => return pad_bytes(
-            delay,
-            star,
-            &command[from..],
-            lines,
-            speed,
-            pad,
-            out,
-        ),
-    }
+    let prefix = read_prefix(command)?;
+    let body = &command[prefix.from..];
+    pad_bytes(prefix.delay, prefix.star, body, lines, speed, pad, out)
 }
 
 // The longest delay that a prefix can state, 9,999.9 ms, in tenths.
@@ -190,38 +164,27 @@ pub fn pad(
     speed: u64,
     pad: u8,
     out: &mut [u8],
-) -> Written
+) -> Result<usize, Refusal>
     ensures { (result ≡ (pad_outcome delay star bytes.now lines speed pad out.old).answer)
         × (out.new ≡ (pad_outcome delay star bytes.now lines speed pad out.old).buffer)
         × (written_report result ≡ pad_report delay star bytes.now lines speed pad out.old) }
 {
     if delay > LONGEST_DELAY {
-        return Written::Refused(Refusal::OutOfRange);
+        return Err(Refusal::OutOfRange);
     }
     pad_bytes(delay as u32, star, bytes, lines, speed, pad, out)
 }
 
 // ---- Send at
 
-// A command for a place, with its prefix split off: the delay, its star, and where the body starts.
-#[derive(Clone, Copy)]
-enum Judged {
-    Body(u32, bool, usize),
-    Refused(Refusal),
-}
-
-// "12 for row and column, 13."
-fn judge(command: &[u8], in_range: bool) -> Judged
+// A command for a place, with its prefix split off: "12 for row and column, 13."
+fn judge(command: &[u8], in_range: bool) -> Result<Prefix, Refusal>
     ensures { CommandJudged command.now in_range result }
 {
     if !in_range {
-        return Judged::Refused(Refusal::OutOfRange);
+        return Err(Refusal::OutOfRange);
     }
-    let prefix = read_prefix(command);
-    match prefix {
-        Prefix::BadPadding => Judged::Refused(Refusal::BadPadding),
-        Prefix::Split(delay, star, from) => Judged::Body(delay, star, from),
-    }
+    read_prefix(command)
 }
 
 // So many bytes are filled in beside the buffer, and then copied.
@@ -238,29 +201,29 @@ fn send_filled(
     pads: usize,
     pad: u8,
     out: &mut [u8],
-) -> Written
+) -> Result<usize, Refusal>
     ensures { (result
         ≡ (delivered (with_pads (filled_for body.now row column back.now up.now) pads pad) out.old).answer)
         × (out.new
         ≡ (delivered (with_pads (filled_for body.now row column back.now up.now) pads pad) out.old).buffer) }
 {
     let capacity = out.len();
-    let first = both_unused(row, column);
+    let first = Places::both_unused(row, column);
     let mut small = [0u8; SMALL];
-    let measured = fill_in(body, first, back, up, capacity, &mut small);
-    match measured {
-        FilledIn::Fault(r) => return Written::Refused(r),
-        FilledIn::NoRoom => return Written::Refused(Refusal::NoRoom),
-        FilledIn::Until(n) => {
+    match fill_in(body, first, back, up, capacity, &mut small) {
+        Err(r) => Err(r),
+        Ok(None) => Err(Refusal::NoRoom),
+        Ok(Some(n)) => {
             if n <= SMALL {
                 return send_copied(&small[..n], pads, pad, out);
             }
             if pads > capacity - n {
-                return Written::Refused(Refusal::NoRoom);
+                return Err(Refusal::NoRoom);
             }
-            fill_in(body, first, back, up, capacity, out);
+            // The same, as was measured.
+            let _ = fill_in(body, first, back, up, capacity, out);
             write_pads(&mut out[n..], pads, pad);
-            return Written::Count(n + pads);
+            Ok(n + pads)
         }
     }
 }
@@ -269,12 +232,9 @@ fn send_filled(
 fn first_fault(body: &[u8], row: Row, column: Column, back: &[u8], up: &[u8]) -> Refusal
     ensures { result ≡ fault_or (filled_for body.now row column back.now up.now) }
 {
-    let mut nothing = [0u8; 0];
-    let measured = fill_in(body, both_unused(row, column), back, up, 0, &mut nothing);
-    match measured {
-        FilledIn::Fault(r) => return r,
-        FilledIn::NoRoom => return Refusal::OutOfRange,
-        FilledIn::Until(n) => return Refusal::OutOfRange,
+    match fill_in(body, Places::both_unused(row, column), back, up, 0, &mut []) {
+        Err(r) => r,
+        Ok(_) => Refusal::OutOfRange,
     }
 }
 
@@ -290,55 +250,54 @@ pub fn send_at(
     speed: u64,
     pad: u8,
     out: &mut [u8],
-) -> Written
+) -> Result<usize, Refusal>
     ensures { (result ≡ (send_at_outcome command.now row column back.now up.now lines speed pad out.old).answer)
         × (out.new ≡ (send_at_outcome command.now row column back.now up.now lines speed pad out.old).buffer)
         × (written_report result ≡ send_at_report command.now row column back.now up.now lines speed pad out.old) }
 {
     let r = Row(held_for(row));
     let c = Column(held_for(column));
-    let judged = judge(command, good_place(r, c));
-    match judged {
-        Judged::Refused(r) => return Written::Refused(r),
-        Judged::Body(delay, star, from) => {
-            if !good_speed(lines, speed) {
-                return Written::Refused(first_fault(&command[from..], r, c, back, up));
-            }
-            let pads = pads_for(delay, star, lines, speed);
-            return send_filled(&command[from..], r, c, back, up, pads, pad, out);
-        }
+    let prefix = judge(command, good_place(r, c))?;
+    let body = &command[prefix.from..];
+    if !good_speed(lines, speed) {
+        return Err(first_fault(body, r, c, back, up));
     }
+    let pads = pads_for(prefix.delay, prefix.star, lines, speed);
+    send_filled(body, r, c, back, up, pads, pad, out)
 }
 
 // The answer of the first half, once its bytes are written or do not fit.
-fn filled_answer(delay: u32, star: bool, written: Written) -> Fill
+fn filled_answer(
+    delay: u32,
+    star: bool,
+    written: Result<usize, Refusal>,
+) -> Result<Finished, Refusal>
     ensures { result ≡ filled_answer delay star written }
 {
     match written {
-        Written::Refused(r) => Fill::Refused(r),
-        Written::Count(n) => Fill::Finished(Finished {
-            delay: delay,
-            star: star,
-            count: n,
-        }),
+        Err(r) => Err(r),
+        Ok(count) => Ok(Finished { delay, star, count }),
     }
 }
 
 // The first half of Send at: the finished bytes go to the start of the buffer, the delay and its star into the answer.
-pub fn fill(command: &[u8], row: u64, column: u64, back: &[u8], up: &[u8], out: &mut [u8]) -> Fill
+pub fn fill(
+    command: &[u8],
+    row: u64,
+    column: u64,
+    back: &[u8],
+    up: &[u8],
+    out: &mut [u8],
+) -> Result<Finished, Refusal>
     ensures { (result ≡ (fill_outcome command.now row column back.now up.now out.old).answer)
         × (out.new ≡ (fill_outcome command.now row column back.now up.now out.old).buffer)
         × (filled_report result ≡ fill_report command.now row column back.now up.now out.old) }
 {
     let held_row = Row(held_for(row));
     let held_column = Column(held_for(column));
-    let judged = judge(command, good_place(held_row, held_column));
-    match judged {
-        Judged::Refused(r) => return Fill::Refused(r),
-        Judged::Body(delay, star, from) => {
-            // Without pads.
-            let written = send_filled(&command[from..], held_row, held_column, back, up, 0, 0, out);
-            return filled_answer(delay, star, written);
-        }
-    }
+    let prefix = judge(command, good_place(held_row, held_column))?;
+    let body = &command[prefix.from..];
+    // Without pads.
+    let written = send_filled(body, held_row, held_column, back, up, 0, 0, out);
+    filled_answer(prefix.delay, prefix.star, written)
 }

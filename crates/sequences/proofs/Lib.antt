@@ -1,3 +1,1 @@
-pub mod Signs
-pub mod NextParameter
 pub mod ReadingLaws

@@ -1,5 +1,5 @@
 -- "Fields": the fields of a line, what each is read as, and what a line's fields say together.
-use Rattle.std.specs.Prelude.{ℕ, ◌+◌, Bool, true, false, List, [], ◌∷◌, ◌++◌, eqb, leb, length}
+use Rattle.std.specs.Prelude.{ℕ, ◌+◌, Bool, true, false, List, [], ◌∷◌, ◌++◌, eqb, leb, length, Option, Some, None}
 use Rattle.spec.specs.Choice.{pick, both, either, between}
 use Rattle.spec.specs.Lists.{upto, past, holds}
 use Rattle.spec.specs.Digits.{are_digits, value}
@@ -8,8 +8,6 @@ use Rattle.spec.specs.Lines.{blank}
 use Rattle.spec.specs.Strings.{Decoded, bad, good, plain, decode}
 use Rattle.spec.specs.declared.Kind.{Kind}
 use Rattle.spec.specs.declared.Kind.TheVariants.{Flag, Number, String}
-use Rattle.spec.specs.declared.Numbered.{Numbered}
-use Rattle.spec.specs.declared.Numbered.TheVariants.{Is, Nothing}
 
 -- ---- a line: its names, a colon (58), its fields
 
@@ -139,8 +137,8 @@ kind_number Flag = 1
 kind_number Number = 2
 kind_number String = 3
 
-abbrev pub kind_of : ℕ → Numbered
-kind_of n = pick (eqb n 1) (Is Flag) (pick (eqb n 2) (Is Number) (pick (eqb n 3) (Is String) Nothing))
+abbrev pub kind_of : ℕ → Option Kind
+kind_of n = pick (eqb n 1) (Some Flag) (pick (eqb n 2) (Some Number) (pick (eqb n 3) (Some String) None))
 
 abbrev pub content_kind : Content → ℕ
 content_kind cancel = 0

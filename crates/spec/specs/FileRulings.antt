@@ -1,5 +1,5 @@
 -- Readings of Ask 5, as calls: several files in one buffer.
-use Rattle.std.specs.Prelude.{ℕ, List, [], ◌∷◌, replicate}
+use Rattle.std.specs.Prelude.{List, [], ◌∷◌, replicate}
 use Rattle.spec.specs.Calls.{ascii, show_in, flag_in, list_in, flat_in, batch_in, reports, refuses, Example, example, AllHold}
 
 abbrev pub file_rulings : List Example

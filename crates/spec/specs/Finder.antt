@@ -1,15 +1,14 @@
 -- Document 02, Ask 8: "a finder that is fed blocks of whatever length, none included, keeps its place between calls and is changed where it
 -- stands. It collects the joined line of the first description with the asked name." A state machine over the bytes as they arrive. That it
 -- finds what the search of a whole file finds, however the file is cut, is a statement of its own (demands/specs/Finder).
-use Rattle.std.specs.Prelude.{ℕ, ◌+◌, ◌-◌, Bool, List, [], ◌∷◌, ◌++◌, eqb, leb, ltb, length, take, get_or, set, replicate}
+use Rattle.std.specs.Prelude.{ℕ, ◌+◌, ◌-◌, Bool, List, [], ◌∷◌, ◌++◌, eqb, leb, ltb, length, take, get_or, set, replicate, Result, Err}
 use Rattle.spec.specs.Choice.{pick, both, either}
 use Rattle.spec.specs.Refusals.{refusal_number, good_name}
 use Rattle.spec.specs.Answers.{Outcome, keeping, put, Report, written_report}
 use Rattle.spec.specs.declared.Refusal.TheVariants.{BadName, UnknownName, ChainTooLarge, NoRoom, InvalidState}
-use Rattle.spec.specs.declared.Written.{Written}
-use Rattle.spec.specs.declared.Written.TheVariants.{Refused}
 use Rattle.spec.specs.declared.finder.LineState.{LineState}
 use Rattle.spec.specs.declared.finder.Finder.{Finder}
+use Rattle.spec.specs.declared.Refusal.{Refusal}
 
 -- ---- the present line, and the text that is collected of it in the lent buffer
 
@@ -150,16 +149,16 @@ feed_all t [] = t
 feed_all t (s ∷ ss) = feed_all (feed_turn t.finder t.text s) ss
 
 -- A line of n bytes stands at the start of the text, if that had room for it. 9 is for either buffer.
-abbrev pub line_copied : ℕ → List ℕ → List ℕ → Outcome Written
-line_copied n text buffer = pick (leb n (length text)) (put (take n text) n buffer) (keeping (Refused NoRoom) buffer)
+abbrev pub line_copied : ℕ → List ℕ → List ℕ → Outcome (Result ℕ Refusal)
+line_copied n text buffer = pick (leb n (length text)) (put (take n text) n buffer) (keeping (Err NoRoom) buffer)
 
 -- "The answer's order is 17, 4, 8, 9."
-unfoldable pub finder_outcome : Finder → List ℕ → List ℕ → Outcome Written
+unfoldable pub finder_outcome : Finder → List ℕ → List ℕ → Outcome (Result ℕ Refusal)
 finder_outcome f text buffer =
     let n = f.line.count in
-    let collected = pick (ltb 16384 n) (keeping (Refused ChainTooLarge) buffer) (line_copied n text buffer) in
-    let found = pick (eqb f.line.stage 4) collected (keeping (Refused UnknownName) buffer) in
-    pick (eqb f.ended 0) (keeping (Refused InvalidState) buffer) found
+    let collected = pick (ltb 16384 n) (keeping (Err ChainTooLarge) buffer) (line_copied n text buffer) in
+    let found = pick (eqb f.line.stage 4) collected (keeping (Err UnknownName) buffer) in
+    pick (eqb f.ended 0) (keeping (Err InvalidState) buffer) found
 
 abbrev pub finder_report : Finder → List ℕ → List ℕ → Report
 finder_report f text buffer = written_report (finder_outcome f text buffer).answer

@@ -1,9 +1,7 @@
 -- "Lines and names": the joined text of a database, its logical lines, their names, and the search for a name.
-use Rattle.std.specs.Prelude.{ℕ, ◌+◌, ◌-◌, Bool, true, false, not, List, [], ◌∷◌, eqb, length, drop}
+use Rattle.std.specs.Prelude.{ℕ, ◌+◌, ◌-◌, Bool, true, false, not, List, [], ◌∷◌, eqb, length, drop, Option, Some, None}
 use Rattle.spec.specs.Choice.{pick, both, either}
 use Rattle.spec.specs.Lists.{upto, later_pieces, among}
-use Rattle.spec.specs.declared.Found.{Found}
-use Rattle.spec.specs.declared.Found.TheVariants.{At, Nothing}
 
 -- ---- the joined text: each of its bytes with the place after it in the database
 
@@ -67,11 +65,11 @@ has_name name l = among name (first_name l ∷ later_names l)
 
 -- ---- "The search stops at the first logical line that holds the name."
 
-unfoldable pub find : List ℕ → List Line → Found
-find name [] = Nothing
-find name (l ∷ ls) = pick (both (not (is_ignored l.text)) (has_name name l.text)) (At l.start) (find name ls)
+unfoldable pub find : List ℕ → List Line → Option ℕ
+find name [] = None
+find name (l ∷ ls) = pick (both (not (is_ignored l.text)) (has_name name l.text)) (Some l.start) (find name ls)
 
-unfoldable pub find_line : List ℕ → List ℕ → Found
+unfoldable pub find_line : List ℕ → List ℕ → Option ℕ
 find_line db name = find name (lines_from 0 (text_at db 0))
 
 -- ---- a line by the place where it starts

@@ -1,13 +1,12 @@
 -- List and Flat: from the inputs and the lent buffer to the answer and the buffer afterwards.
-use Rattle.std.specs.Prelude.{ℕ, ◌+◌, ◌-◌, ◌*◌, ◌/◌, ◌%◌, ◌≤◌, List, [], ◌∷◌, ◌++◌, length}
+use Rattle.std.specs.Prelude.{ℕ, ◌+◌, ◌-◌, ◌*◌, ◌/◌, ◌%◌, ◌≤◌, List, [], ◌∷◌, ◌++◌, length, Result, Err}
 use Rattle.spec.specs.Fields.{Reading, malformed, ignored, link, capability, reading, with_colons, content_kind, content_value}
 use Rattle.spec.specs.Files.{Files}
 use Rattle.spec.specs.Chain.{Field, texts, Terminal, refused, terminal}
 use Rattle.spec.specs.Lookup.{winning}
 use Rattle.spec.specs.Answers.{Outcome, keeping, put, Report, written_report}
 use Rattle.spec.specs.Questions.{terminal_of}
-use Rattle.spec.specs.declared.Written.{Written}
-use Rattle.spec.specs.declared.Written.TheVariants.{Refused}
+use Rattle.spec.specs.declared.Refusal.{Refusal}
 
 -- ---- List
 
@@ -28,11 +27,11 @@ unfoldable pub records : List Field → List ℕ
 records [] = []
 records (f ∷ fs) = record_of f.place f.file (reading f.text) ++ records fs
 
-unfoldable pub list_for : Terminal → List ℕ → Outcome Written
-list_for (refused r) buffer = keeping (Refused r) buffer
+unfoldable pub list_for : Terminal → List ℕ → Outcome (Result ℕ Refusal)
+list_for (refused r) buffer = keeping (Err r) buffer
 list_for (terminal names fs) buffer = put (records (winning fs)) (length (winning fs)) buffer
 
-unfoldable pub list_outcome : Files → List ℕ → List ℕ → Outcome Written
+unfoldable pub list_outcome : Files → List ℕ → List ℕ → Outcome (Result ℕ Refusal)
 list_outcome db name buffer = list_for (terminal_of db name) buffer
 
 abbrev pub list_report : Files → List ℕ → List ℕ → Report
@@ -43,11 +42,11 @@ list_report db name buffer = written_report (list_outcome db name buffer).answer
 unfoldable pub flat_text : List ℕ → List Field → List ℕ
 flat_text names fs = with_colons (names ∷ texts (winning fs)) ++ 10 ∷ []
 
-unfoldable pub flat_for : Terminal → List ℕ → Outcome Written
-flat_for (refused r) buffer = keeping (Refused r) buffer
+unfoldable pub flat_for : Terminal → List ℕ → Outcome (Result ℕ Refusal)
+flat_for (refused r) buffer = keeping (Err r) buffer
 flat_for (terminal names fs) buffer = put (flat_text names fs) (length (flat_text names fs)) buffer
 
-unfoldable pub flat_outcome : Files → List ℕ → List ℕ → Outcome Written
+unfoldable pub flat_outcome : Files → List ℕ → List ℕ → Outcome (Result ℕ Refusal)
 flat_outcome db name buffer = flat_for (terminal_of db name) buffer
 
 abbrev pub flat_report : Files → List ℕ → List ℕ → Report

@@ -1,5 +1,5 @@
 -- "Filling in a position": the body of a command for a row and a column, and the compensations after it.
-use Rattle.std.specs.Prelude.{ℕ, zero, suc, ◌+◌, not, List, [], ◌∷◌, ◌++◌, eqb}
+use Rattle.std.specs.Prelude.{ℕ, zero, suc, ◌+◌, not, List, [], ◌∷◌, ◌++◌, eqb, Result, Ok, Err}
 use Rattle.spec.specs.Choice.{pick, both, is_empty}
 use Rattle.spec.specs.Sequences.{read_byte, perform, output_bytes}
 use Rattle.spec.specs.declared.Refusal.{Refusal}
@@ -15,7 +15,6 @@ use Rattle.spec.specs.declared.position.Pending.TheVariants.{Letter}
 use Rattle.spec.specs.declared.position.Progress.{Progress}
 use Rattle.spec.specs.declared.position.Progress.TheVariants.{More, Whole, Unknown}
 use Rattle.spec.specs.declared.position.Effect.{Effect}
-use Rattle.spec.specs.declared.position.Effect.TheVariants.{Gives, Refused}
 
 -- ---- the body: "plain bytes and percent sequences alternate until the command is used up"
 
@@ -30,9 +29,9 @@ then l (filled k ps) = filled (l ++ k) ps
 then l (refused r) = refused r
 
 -- A sequence that was done, and then what follows it.
-abbrev pub onward : Effect → (Parameters → Filled) → Filled
-onward (Gives w ps) rest = then (output_bytes w) (rest ps)
-onward (Refused r) rest = refused r
+abbrev pub onward : Result Effect Refusal → (Parameters → Filled) → Filled
+onward (Ok e) rest = then (output_bytes e.output) (rest e.parameters)
+onward (Err r) rest = refused r
 
 -- A byte of a sequence: the rest of the sequence, or the sequence and what follows it. "Unknown, or cut off, percent sequence": 10.
 abbrev pub on_byte : Progress → Raising → Parameters → (Pending → Filled) → (Parameters → Filled) → Filled

@@ -1,5 +1,5 @@
 -- Repair (document 02, Ask 2): the mended database, and a record for each thing removed.
-use Rattle.std.specs.Prelude.{ℕ, zero, suc, ◌+◌, ◌-◌, Bool, true, false, not, List, [], ◌∷◌, ◌++◌, eqb, leb, ltb, length, take, drop}
+use Rattle.std.specs.Prelude.{ℕ, zero, suc, ◌+◌, ◌-◌, Bool, true, false, not, List, [], ◌∷◌, ◌++◌, eqb, leb, ltb, length, take, drop, Option, Some, None, Result, Ok, Err}
 use Rattle.spec.specs.Choice.{pick, both, either}
 use Rattle.spec.specs.Lists.{holds, upto, past}
 use Rattle.spec.specs.Refusals.{too_large}
@@ -7,12 +7,9 @@ use Rattle.spec.specs.Lines.{text_at, Line, lines_from, is_ignored, find, extent
 use Rattle.spec.specs.Fields.{names_of, grow, Reading, malformed, ignored, link, capability, reading, Verdict, malformed_line, no_link, link_to}
 use Rattle.spec.specs.Answers.{Report, repaired_report}
 use Rattle.spec.specs.Listing.{four_bytes}
-use Rattle.spec.specs.declared.Found.{Found}
-use Rattle.spec.specs.declared.Found.TheVariants.{At, Nothing}
 use Rattle.spec.specs.declared.Refusal.{Refusal}
 use Rattle.spec.specs.declared.Refusal.TheVariants.{DatabaseTooLarge, NoRoom, TooManyLines}
-use Rattle.spec.specs.declared.Repaired.{Repaired}
-use Rattle.spec.specs.declared.Repaired.TheVariants.{Counts, Refused}
+use Rattle.spec.specs.declared.Amounts.{Amounts}
 
 -- ---- the logical lines of a database, "ignored ones counted"
 
@@ -94,7 +91,7 @@ line_link l = pick (is_ignored l) no_link (link_of (field_pieces l))
 -- The link of the line that starts at a place, and where it leads: it is searched for among the lines that are left.
 pub record Link : Type 0 where
   pub at : ℕ
-  pub to : Found
+  pub to : Option ℕ
 
 unfoldable pub with_link : List Line → ℕ → Verdict → List Link → List Link
 with_link among at malformed_line rest = rest
@@ -106,21 +103,21 @@ links_among among [] = []
 links_among among (l ∷ ls) = with_link among l.start (line_link l.text) (links_among among ls)
 
 -- Where the links, as they stand, lead from the line at a place.
-unfoldable pub leads : List Link → ℕ → Found
-leads [] p = Nothing
+unfoldable pub leads : List Link → ℕ → Option ℕ
+leads [] p = None
 leads (k ∷ ks) p = pick (eqb k.at p) k.to (leads ks p)
 
 -- "Follow the links as they stand now, and if they come back to this line": to the line at `home`, in at most so many steps.
-unfoldable pub comes_back : List Link → ℕ → ℕ → Found → Bool
+unfoldable pub comes_back : List Link → ℕ → ℕ → Option ℕ → Bool
 comes_back ks zero home found = false
-comes_back ks (suc n) home Nothing = false
-comes_back ks (suc n) home (At p) = either (eqb p home) (comes_back ks n home (leads ks p))
+comes_back ks (suc n) home None = false
+comes_back ks (suc n) home (Some p) = either (eqb p home) (comes_back ks n home (leads ks p))
 
 -- "Remove a link that is found nowhere; follow the links ..., and if they come back to this line, remove this line's link." A ring of
 -- links has no more steps than there are links.
-unfoldable pub link_reason : List Link → ℕ → Found → ℕ
-link_reason ks home Nothing = lost_link
-link_reason ks home (At p) = pick (comes_back ks (length ks) home (At p)) cyclic_link 0
+unfoldable pub link_reason : List Link → ℕ → Option ℕ → ℕ
+link_reason ks home None = lost_link
+link_reason ks home (Some p) = pick (comes_back ks (length ks) home (Some p)) cyclic_link 0
 
 -- The removed link of the line at a place, and why.
 pub record Removed : Type 0 where
@@ -232,12 +229,12 @@ flattened (l ∷ ls) = l ++ flattened ls
 
 -- The answer, the buffer for the mended database and the buffer for the records, afterwards.
 pub record RepairOutcome : Type 0 where
-  pub answer : Repaired
+  pub answer : Result Amounts Refusal
   pub text : List ℕ
   pub records : List ℕ
 
 abbrev pub not_repaired : Refusal → List ℕ → List ℕ → RepairOutcome
-not_repaired r text records = record { answer = Refused r; text = text; records = records }
+not_repaired r text records = record { answer = Err r; text = text; records = records }
 
 -- "No room in either buffer is 9."
 unfoldable pub put_mended : Mended → List ℕ → List ℕ → RepairOutcome
@@ -245,7 +242,7 @@ put_mended m text records =
     let bytes = flattened m.records in
     pick (both (leb (length m.text) (length text)) (leb (length bytes) (length records)))
     (record {
-      answer = Counts (length m.text) (length m.records);
+      answer = (Ok (record { bytes = (length m.text); records = (length m.records) }));
       text = m.text ++ drop (length m.text) text;
       records = bytes ++ drop (length bytes) records;
     })

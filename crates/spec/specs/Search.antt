@@ -1,5 +1,5 @@
 -- Ask 6: "a search that tells whether an asked name is found and how many names had bytes compared".
-use Rattle.std.specs.Prelude.{ℕ, ◌+◌, Bool, true, false, List, [], ◌∷◌, ◌++◌, eqb, length}
+use Rattle.std.specs.Prelude.{ℕ, ◌+◌, Bool, List, [], ◌∷◌, ◌++◌, eqb, length, Result, Ok, Err}
 use Rattle.spec.specs.Choice.{pick}
 use Rattle.spec.specs.Lists.{same, among}
 use Rattle.spec.specs.Refusals.{good_name, too_large}
@@ -7,8 +7,8 @@ use Rattle.spec.specs.Lines.{Line, text_at, lines_from, is_ignored, first_name, 
 use Rattle.spec.specs.Files.{Files, good_ends, contents}
 use Rattle.spec.specs.Answers.{Report, searched_report}
 use Rattle.spec.specs.declared.Refusal.TheVariants.{BadName, DatabaseTooLarge, BadEnds}
-use Rattle.spec.specs.declared.Searched.{Searched}
-use Rattle.spec.specs.declared.Searched.TheVariants.{Found, Missing, Refused}
+use Rattle.spec.specs.declared.Refusal.{Refusal}
+use Rattle.spec.specs.declared.Tally.{Tally}
 
 -- ---- the names "in lines that aren't ignored", in the order of the search
 
@@ -46,17 +46,16 @@ compared name (m ∷ ms) =
 
 -- ---- the answer
 
-abbrev pub told : Bool → ℕ → Searched
-told true n = Found n
-told false n = Missing n
+abbrev pub told : Bool → ℕ → Result Tally Refusal
+told found n = Ok (record { found = found; compared = n })
 
 -- "It refuses only 16, 1 and 3": a name that is not found is an answer.
-unfoldable pub search_answer : Files → List ℕ → Searched
+unfoldable pub search_answer : Files → List ℕ → Result Tally Refusal
 search_answer db name =
     let names = all_names (contents db) in
     pick (good_ends db)
-    (pick (good_name name) (pick (too_large db.bytes) (Refused DatabaseTooLarge) (told (among name names) (compared name names))) (Refused BadName))
-    (Refused BadEnds)
+    (pick (good_name name) (pick (too_large db.bytes) (Err DatabaseTooLarge) (told (among name names) (compared name names))) (Err BadName))
+    (Err BadEnds)
 
 abbrev pub search_report : Files → List ℕ → Report
 search_report db name = searched_report (search_answer db name)

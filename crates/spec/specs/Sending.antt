@@ -1,15 +1,12 @@
 -- Send, Send at and its two halves: from the inputs and the lent buffer to the answer and the buffer afterwards.
-use Rattle.std.specs.Prelude.{ℕ, Bool, List, ◌++◌, length, replicate, leb}
+use Rattle.std.specs.Prelude.{ℕ, Bool, List, ◌++◌, length, replicate, leb, Result, Ok, Err}
 use Rattle.spec.specs.Choice.{pick, both, between}
 use Rattle.spec.specs.Padding.{Prefix, Split, prefix_of, delay_for, pad_count}
 use Rattle.spec.specs.Position.{Body, body, fault, fill_in}
 use Rattle.spec.specs.Answers.{Outcome, keeping, put, Report, written_report, filled_report}
 use Rattle.spec.specs.declared.Refusal.{Refusal}
 use Rattle.spec.specs.declared.Refusal.TheVariants.{OutOfRange}
-use Rattle.spec.specs.declared.Written.{Written}
-use Rattle.spec.specs.declared.Written.TheVariants.{Count, Refused}
-use Rattle.spec.specs.declared.Fill.{Fill}
-use Rattle.spec.specs.declared.Fill.TheVariants.{Finished as Filled, Refused as NotFilled}
+use Rattle.spec.specs.declared.Finished.{Finished as FinishedCount}
 
 -- ---- the finished command: delay (not yet times lines), star and bytes apart. "The padding prefix is split off the decoded command
 -- first, and only the body is filled in."
@@ -66,19 +63,19 @@ padded (refused r) lines speed pad = stops r
 
 -- ---- "then 9"
 
-unfoldable pub delivered : Outgoing → List ℕ → Outcome Written
+unfoldable pub delivered : Outgoing → List ℕ → Outcome (Result ℕ Refusal)
 delivered (sends l) buffer = put l (length l) buffer
-delivered (stops r) buffer = keeping (Refused r) buffer
+delivered (stops r) buffer = keeping (Err r) buffer
 
 -- "For plain Send 13, 12, 9."
-unfoldable pub send_outcome : List ℕ → ℕ → ℕ → ℕ → List ℕ → Outcome Written
+unfoldable pub send_outcome : List ℕ → ℕ → ℕ → ℕ → List ℕ → Outcome (Result ℕ Refusal)
 send_outcome cmd lines speed pad buffer = delivered (padded (prepared cmd) lines speed pad) buffer
 
 abbrev pub send_report : List ℕ → ℕ → ℕ → ℕ → List ℕ → Report
 send_report cmd lines speed pad buffer = written_report (send_outcome cmd lines speed pad buffer).answer
 
 -- "For Send at, 12 for row and column, 13, the body's faults, then 12 for lines and speed, then 9."
-unfoldable pub send_at_outcome : List ℕ → ℕ → ℕ → List ℕ → List ℕ → ℕ → ℕ → ℕ → List ℕ → Outcome Written
+unfoldable pub send_at_outcome : List ℕ → ℕ → ℕ → List ℕ → List ℕ → ℕ → ℕ → ℕ → List ℕ → Outcome (Result ℕ Refusal)
 send_at_outcome cmd row column back up lines speed pad buffer = delivered (padded (prepared_at cmd row column back up) lines speed pad) buffer
 
 abbrev pub send_at_report : List ℕ → ℕ → ℕ → List ℕ → List ℕ → ℕ → ℕ → ℕ → List ℕ → Report
@@ -87,17 +84,17 @@ send_at_report cmd row column back up lines speed pad buffer = written_report (s
 -- ---- Ask 7: "one operation that fills in and one that pads. What goes between them holds the delay, its star and the finished bytes apart"
 
 -- The first half puts the finished bytes at the start of the buffer, 9 where they do not fit; the rest is its answer.
-abbrev pub filled_answer : ℕ → Bool → Written → Fill
-filled_answer delay star (Count n) = Filled (record { delay = delay; star = star; count = n })
-filled_answer delay star (Refused r) = NotFilled r
+abbrev pub filled_answer : ℕ → Bool → Result ℕ Refusal → Result FinishedCount Refusal
+filled_answer delay star (Ok n) = Ok (record { delay = delay; star = star; count = n })
+filled_answer delay star (Err r) = Err r
 
-abbrev pub filled_into : Prepared → List ℕ → Outcome Fill
+abbrev pub filled_into : Prepared → List ℕ → Outcome (Result FinishedCount Refusal)
 filled_into (finished f) buffer =
     let o = put f.bytes (length f.bytes) buffer in
     record { answer = filled_answer f.delay f.star o.answer; buffer = o.buffer }
-filled_into (refused r) buffer = keeping (NotFilled r) buffer
+filled_into (refused r) buffer = keeping (Err r) buffer
 
-unfoldable pub fill_outcome : List ℕ → ℕ → ℕ → List ℕ → List ℕ → List ℕ → Outcome Fill
+unfoldable pub fill_outcome : List ℕ → ℕ → ℕ → List ℕ → List ℕ → List ℕ → Outcome (Result FinishedCount Refusal)
 fill_outcome cmd row column back up buffer = filled_into (prepared_at cmd row column back up) buffer
 
 abbrev pub fill_report : List ℕ → ℕ → ℕ → List ℕ → List ℕ → List ℕ → Report
@@ -107,7 +104,7 @@ fill_report cmd row column back up buffer = filled_report (fill_outcome cmd row 
 abbrev pub handed : ℕ → Bool → List ℕ → Prepared
 handed delay star bytes = pick (leb delay 99999) (finished (record { delay = delay; star = star; bytes = bytes })) (refused OutOfRange)
 
-unfoldable pub pad_outcome : ℕ → Bool → List ℕ → ℕ → ℕ → ℕ → List ℕ → Outcome Written
+unfoldable pub pad_outcome : ℕ → Bool → List ℕ → ℕ → ℕ → ℕ → List ℕ → Outcome (Result ℕ Refusal)
 pad_outcome delay star bytes lines speed pad buffer = delivered (padded (handed delay star bytes) lines speed pad) buffer
 
 abbrev pub pad_report : ℕ → Bool → List ℕ → ℕ → ℕ → ℕ → List ℕ → Report

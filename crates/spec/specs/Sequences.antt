@@ -1,9 +1,10 @@
 -- "Filling in a position": how each percent sequence is read, and what it does to the parameters. "For one sequence 10 is tested first,
 -- then 11, then 12": the reading refuses with 10, then a parameter is taken or 11, then its range is tested.
-use Rattle.std.specs.Prelude.{ℕ, ◌+◌, ◌≤◌, List, [], ◌∷◌, eqb, leb, ltb}
+use Rattle.std.specs.Prelude.{ℕ, ◌+◌, ◌≤◌, List, [], ◌∷◌, eqb, leb, ltb, Option, Some, None, Result, Ok, Err}
 use Rattle.spec.specs.Choice.{pick, both}
 use Rattle.spec.specs.Digits.{written}
 use Rattle.spec.specs.Values.{held, holding, non_negative, plain_value, byte_for, changed}
+use Rattle.spec.specs.declared.Refusal.{Refusal}
 use Rattle.spec.specs.declared.Refusal.TheVariants.{TooFewParameters, OutOfRange}
 use Rattle.spec.specs.declared.position.Parameter.{Parameter}
 use Rattle.spec.specs.declared.position.Parameters.{Parameters}
@@ -11,8 +12,6 @@ use Rattle.spec.specs.declared.position.Parameters.TheVariants.{TwoUnused, OneUn
 use Rattle.spec.specs.declared.position.Raising.{Raising}
 use Rattle.spec.specs.declared.position.Change.{Change}
 use Rattle.spec.specs.declared.position.Change.TheVariants.{Increment, Xor, AddAbove, Bcd, Delta}
-use Rattle.spec.specs.declared.position.Changed.{Changed}
-use Rattle.spec.specs.declared.position.Changed.TheVariants.{To, OutOfRange as Out}
 use Rattle.spec.specs.declared.position.Sequence.{Sequence}
 use Rattle.spec.specs.declared.position.Sequence.TheVariants.{Percent, Decimal, Byte, ChangeEvery, ChangeNext, Exchange}
 use Rattle.spec.specs.declared.position.Pending.{Pending}
@@ -22,7 +21,6 @@ use Rattle.spec.specs.declared.position.Progress.TheVariants.{More, Whole, Unkno
 use Rattle.spec.specs.declared.position.Output.{Output}
 use Rattle.spec.specs.declared.position.Output.TheVariants.{Nothing, Single, Number}
 use Rattle.spec.specs.declared.position.Effect.{Effect}
-use Rattle.spec.specs.declared.position.Effect.TheVariants.{Gives, Refused}
 
 -- ---- reading, a byte at a time
 
@@ -60,6 +58,10 @@ Narrow Exchange = Unit
 
 -- ---- doing it to the parameters
 
+-- A sequence writes, and leaves the parameters so; or it is refused.
+abbrev pub gives : Output → Parameters → Result Effect Refusal
+gives x ps = Ok (record { output = x; parameters = ps })
+
 -- The next parameter is used up, and its byte asks for so many compensations.
 abbrev pub take_next : Parameters → ℕ → Parameters
 take_next (TwoUnused p q) n = OneUnused (record { parameter = p; compensations = n }) q
@@ -67,50 +69,50 @@ take_next (OneUnused d p) n = AllUsed d (record { parameter = p; compensations =
 take_next (AllUsed d e) n = AllUsed d e
 
 -- What is done with the next parameter: 11 if none is unused.
-abbrev pub with_next : Parameters → (Parameter → Effect) → Effect
+abbrev pub with_next : Parameters → (Parameter → Result Effect Refusal) → Result Effect Refusal
 with_next (TwoUnused p q) f = f p
 with_next (OneUnused d p) f = f p
-with_next (AllUsed d e) f = Refused TooFewParameters
+with_next (AllUsed d e) f = Err TooFewParameters
 
 -- 12 if a change leaves the range.
-abbrev pub with_changed : Changed → (ℕ → Effect) → Effect
-with_changed (To h) f = f h
-with_changed Out f = Refused OutOfRange
+abbrev pub with_changed : Option ℕ → (ℕ → Result Effect Refusal) → Result Effect Refusal
+with_changed (Some h) f = f h
+with_changed None f = Err OutOfRange
 
 -- `%d`, `%2`, `%3`: "negative decimals ... are 12".
-abbrev pub as_decimal : ℕ → Parameters → Parameter → Effect
-as_decimal least ps p = pick (non_negative (held p)) (Gives (Number (plain_value (held p)) least) (take_next ps 0)) (Refused OutOfRange)
+abbrev pub as_decimal : ℕ → Parameters → Parameter → Result Effect Refusal
+as_decimal least ps p = pick (non_negative (held p)) (gives (Number (plain_value (held p)) least) (take_next ps 0)) (Err OutOfRange)
 
 -- `%.` the byte, `%+c` the value plus c's byte: "bytes outside 0..255 are 12"; "the range test comes before raising".
-abbrev pub as_byte : Raising → ℕ → Parameters → Parameter → Effect
+abbrev pub as_byte : Raising → ℕ → Parameters → Parameter → Result Effect Refusal
 as_byte g c ps p =
     let r = byte_for g p (plain_value (held p + c)) in
     pick (both (leb 32768 (held p + c)) (ltb (plain_value (held p + c)) 256))
-    (Gives (Single r.byte) (take_next ps r.compensations))
-    (Refused OutOfRange)
+    (gives (Single r.byte) (take_next ps r.compensations))
+    (Err OutOfRange)
 
 -- "On the next one": `%>xy`, `%B`, `%D`.
-abbrev pub change_next : Change → Parameters → Effect
-change_next c (TwoUnused p q) = with_changed (changed c (held p)) (λ h. Gives Nothing (TwoUnused (holding p h) q))
-change_next c (OneUnused d p) = with_changed (changed c (held p)) (λ h. Gives Nothing (OneUnused d (holding p h)))
-change_next c (AllUsed d e) = Refused TooFewParameters
+abbrev pub change_next : Change → Parameters → Result Effect Refusal
+change_next c (TwoUnused p q) = with_changed (changed c (held p)) (λ h. gives Nothing (TwoUnused (holding p h) q))
+change_next c (OneUnused d p) = with_changed (changed c (held p)) (λ h. gives Nothing (OneUnused d (holding p h)))
+change_next c (AllUsed d e) = Err TooFewParameters
 
 -- "`%i` adds 1 to every unused parameter, `%n` XORs each with 96 (11 for either if none is unused)."
-abbrev pub change_every : Change → Parameters → Effect
+abbrev pub change_every : Change → Parameters → Result Effect Refusal
 change_every c (TwoUnused p q) =
-    with_changed (changed c (held p)) (λ h. with_changed (changed c (held q)) (λ k. Gives Nothing (TwoUnused (holding p h) (holding q k))))
+    with_changed (changed c (held p)) (λ h. with_changed (changed c (held q)) (λ k. gives Nothing (TwoUnused (holding p h) (holding q k))))
 change_every c (OneUnused d p) = change_next c (OneUnused d p)
-change_every c (AllUsed d e) = Refused TooFewParameters
+change_every c (AllUsed d e) = Err TooFewParameters
 
 -- "`%r` exchanges the two (both unused)."
-abbrev pub exchange : Parameters → Effect
-exchange (TwoUnused p q) = Gives Nothing (TwoUnused q p)
-exchange (OneUnused d p) = Refused TooFewParameters
-exchange (AllUsed d e) = Refused TooFewParameters
+abbrev pub exchange : Parameters → Result Effect Refusal
+exchange (TwoUnused p q) = gives Nothing (TwoUnused q p)
+exchange (OneUnused d p) = Err TooFewParameters
+exchange (AllUsed d e) = Err TooFewParameters
 
 -- "`%%` writes `%` and uses none."
-unfoldable pub perform : Raising → Sequence → Parameters → Effect
-perform g Percent ps = Gives (Single 37) ps
+unfoldable pub perform : Raising → Sequence → Parameters → Result Effect Refusal
+perform g Percent ps = gives (Single 37) ps
 perform g (Decimal least) ps = with_next ps (as_decimal least ps)
 perform g (Byte c) ps = with_next ps (as_byte g c ps)
 perform g (ChangeEvery c) ps = change_every c ps

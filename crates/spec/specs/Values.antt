@@ -2,15 +2,13 @@
 --
 -- VALUES ARE HELD WITH AN OFFSET: a value v of -32,768..32,767 is held as the number h = v + 32,768 of 0..65,535. So a value is negative
 -- where h < 32,768, and above the range where 65,536 ≤ h. No change lowers a negative value, so none falls below the range.
-use Rattle.std.specs.Prelude.{ℕ, zero, suc, ◌+◌, ◌-◌, ◌*◌, ◌/◌, ◌%◌, Bool, eqb, leb, ltb}
+use Rattle.std.specs.Prelude.{ℕ, zero, suc, ◌+◌, ◌-◌, ◌*◌, ◌/◌, ◌%◌, Bool, eqb, leb, ltb, Option, Some, None}
 use Rattle.std.specs.Int.Bits.{bit_xor}
 use Rattle.spec.specs.Choice.{pick, both, either}
 use Rattle.spec.specs.declared.position.Parameter.{Parameter}
 use Rattle.spec.specs.declared.position.Parameter.TheVariants.{Row, Column}
 use Rattle.spec.specs.declared.position.Change.{Change}
 use Rattle.spec.specs.declared.position.Change.TheVariants.{Increment, Xor, AddAbove, Bcd, Delta}
-use Rattle.spec.specs.declared.position.Changed.{Changed}
-use Rattle.spec.specs.declared.position.Changed.TheVariants.{To, OutOfRange}
 use Rattle.spec.specs.declared.position.Raising.{Raising}
 use Rattle.spec.specs.declared.position.Raised.{Raised}
 
@@ -57,18 +55,18 @@ raises g (Column c) = g.columns
 abbrev pub byte_for : Raising → Parameter → ℕ → Raised
 byte_for g p b = pick (raises g p) (raised b) (record { byte = b; compensations = 0 })
 
--- ---- changes: "any result outside -32,768..32,767 [is] 12"
+-- ---- changes: "any result outside -32,768..32,767 [is] 12", which is none here
 
-abbrev pub in_range : ℕ → Changed
-in_range h = pick (ltb h 65536) (To h) OutOfRange
+abbrev pub in_range : ℕ → Option ℕ
+in_range h = pick (ltb h 65536) (Some h) None
 
 -- "`%n`, `%B`, `%D` of a negative ... are 12."
-abbrev pub of_non_negative : ℕ → ℕ → Changed
-of_non_negative h result = pick (non_negative h) (in_range result) OutOfRange
+abbrev pub of_non_negative : ℕ → ℕ → Option ℕ
+of_non_negative h result = pick (non_negative h) (in_range result) None
 
 -- `%i` adds 1; `%n` XORs with 96; `%>xy` adds y's byte if the value is above x's; `%B` makes 16 times the quotient by 10 plus the
 -- remainder; `%D` subtracts twice the remainder by 16.
-unfoldable pub changed : Change → ℕ → Changed
+unfoldable pub changed : Change → ℕ → Option ℕ
 changed Increment h = in_range (h + 1)
 changed Xor h = of_non_negative h (32768 + bit_xor (plain_value h) 96)
 changed (AddAbove x y) h = pick (ltb (32768 + x) h) (in_range (h + y)) (in_range h)

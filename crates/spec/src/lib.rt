@@ -1,4 +1,7 @@
-// The types that the definitions of specs/ and the code share: the answers of the operations, and the kinds of a capability.
+// The types that the definitions of specs/ and the code share: the refusals, the kinds of a capability, and what the operations answer.
+// An operation answers a `Result` with the refusal for its error: Flag, Number and String with a value, or the count of the bytes that were
+// written, if the capability is there; List, Flat, a batch, a finder, Send, Send at and its second half with the number of records, of
+// answers, or of bytes, that were written.
 // The types of positions are in position.rt, that of a finder's state in finder.rt.
 #![tactic(auto)]
 
@@ -74,13 +77,6 @@ pub enum Kind {
     String,
 }
 
-// The kind of a number, if it is the number of one.
-#[derive(Clone, Copy)]
-pub enum Numbered {
-    Is(Kind),
-    Nothing,
-}
-
 impl Kind {
     pub const FLAG: u8 = 1;
 
@@ -98,39 +94,23 @@ impl Kind {
         }
     }
 
-    pub fn from_number(n: u8) -> Numbered
+    pub fn from_number(n: u8) -> Option<Kind>
         ensures { result ≡ kind_of n }
     {
         match n {
-            Kind::FLAG => Numbered::Is(Kind::Flag),
-            Kind::NUMBER => Numbered::Is(Kind::Number),
-            Kind::STRING => Numbered::Is(Kind::String),
-            _ => Numbered::Nothing,
+            Kind::FLAG => Some(Kind::Flag),
+            Kind::NUMBER => Some(Kind::Number),
+            Kind::STRING => Some(Kind::String),
+            _ => None,
         }
     }
 }
 
-// The answer to Flag, Number and String: the value, or the count of the bytes that were written.
+// What Repair gives: the bytes of the mended database, and the number of records.
 #[derive(Clone, Copy)]
-pub enum Answer {
-    Present(u32),
-    Absent,
-    Refused(Refusal),
-}
-
-// The answer of List, Flat, a batch, a finder, Send, Send at and its second half: the number of records, of answers, or of bytes, that were
-// written.
-#[derive(Clone, Copy)]
-pub enum Written {
-    Count(usize),
-    Refused(Refusal),
-}
-
-// The answer of Repair: the bytes of the mended database, and the number of records.
-#[derive(Clone, Copy)]
-pub enum Repaired {
-    Counts(usize, usize),
-    Refused(Refusal),
+pub struct Amounts {
+    pub bytes: usize,
+    pub records: usize,
 }
 
 // What goes between the two halves of Send at: the delay in tenths of a millisecond, before its star; the star; and the count of the
@@ -142,45 +122,23 @@ pub struct Finished {
     pub count: usize,
 }
 
-// The answer of the first half of Send at.
+// What Show gives: the part of the database from a place up to a place.
 #[derive(Clone, Copy)]
-pub enum Fill {
-    Finished(Finished),
-    Refused(Refusal),
+pub struct Part {
+    pub from: usize,
+    pub to: usize,
 }
 
-// The answer of Show: the part of the database from a place up to a place.
+// What the search that counts gives: whether the name is found, and how many names had bytes compared.
 #[derive(Clone, Copy)]
-pub enum Shown {
-    Part(usize, usize),
-    Refused(Refusal),
-}
-
-// The answer of the search that counts: the name is found, or is not; and how many names had bytes compared.
-#[derive(Clone, Copy)]
-pub enum Searched {
-    Found(usize),
-    Missing(usize),
-    Refused(Refusal),
-}
-
-// The answer of a search for a line in one file: the place in it where the line starts.
-#[derive(Clone, Copy)]
-pub enum Found {
-    At(usize),
-    Nothing,
+pub struct Tally {
+    pub found: bool,
+    pub compared: usize,
 }
 
 // A line of several files: the number of its file, from 0, and the place in it where it starts.
-#[derive(Clone, Copy)]
+#[derive(Clone, Copy, PartialEq, Eq)]
 pub struct Location {
     pub file: u8,
     pub at: usize,
-}
-
-// The answer of a search for a line in several files.
-#[derive(Clone, Copy)]
-pub enum Located {
-    At(Location),
-    Nothing,
 }

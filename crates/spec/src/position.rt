@@ -1,6 +1,4 @@
 // The types of filling in a position. The definitions over them are in specs/Values, specs/Sequences and specs/Position.
-use crate::Refusal;
-
 // A row and a column are types of their own, so that neither is ever taken for the other. Each holds its value plus 32,768: a value
 // may be negative, -32,768..32,767, and what is held is 0..65,535.
 #[derive(Clone, Copy)]
@@ -55,13 +53,6 @@ pub enum Change {
     Delta,
 }
 
-// The changed value as it is held, or out of its range.
-#[derive(Clone, Copy)]
-pub enum Changed {
-    To(u16),
-    OutOfRange,
-}
-
 // A percent sequence: %%; %d, %2, %3 with their least width; %+c (%. adds 0); a change of every unused parameter (%i, %n) or of the
 // next one (%>xy, %B, %D); %r.
 #[derive(Clone, Copy)]
@@ -99,9 +90,9 @@ pub enum Output {
     Number(u16, u8),
 }
 
-// What a sequence does: it writes, and leaves the parameters so; or it is refused.
+// What a sequence does that is not refused: it writes, and leaves the parameters so.
 #[derive(Clone, Copy)]
-pub enum Effect {
-    Gives(Output, Parameters),
-    Refused(Refusal),
+pub struct Effect {
+    pub output: Output,
+    pub parameters: Parameters,
 }

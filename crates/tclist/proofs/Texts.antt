@@ -1,4 +1,5 @@
 -- The text of an answer: the bytes of records one after the other. Assumes nothing.
+use Rattle.std.specs.Prelude.{Result, Ok}
 use Prim.Native.Nat.{ℕ, ◌+◌, ◌*◌, ◌≤◌, ◌<◌}
 use mathlib.Core.Path.{◌≡◌, sym, ap, ◌∙◌}
 use mathlib.Core.List.{List, [], ◌∷◌, ◌++◌}
@@ -17,12 +18,11 @@ use Rattle.spec.specs.Lookup.{winning}
 use Rattle.spec.specs.Answers.{Outcome, put}
 use Rattle.spec.specs.Questions.{terminal_of}
 use Rattle.spec.specs.Listing.{records, list_for, list_outcome}
-use Rattle.spec.specs.declared.Written.{Written}
-use Rattle.spec.specs.declared.Written.TheVariants.{Count}
 use Rattle.laws.proofs.Tests.{pick-told}
 use Rattle.laws.proofs.Records.{records-length}
 use Rattle.laws.proofs.Winning.{winning-wins}
 use Rattle.tclist.specs.Output.{separator_of, decimals}
+use Rattle.spec.specs.declared.Refusal.{Refusal}
 
 pub byte-short : (b : ℕ) → b < 1000 → length (written 10 1 b) ≤ 3
 byte-short b h = written-most 10 1 b (omega arith) 3 (omega arith) h
@@ -42,14 +42,14 @@ module _ (l : List ℕ) (k : ℕ) where
   decimals-next h = ap (decimals k) (drop-cons l k 0 h) ∙ rw add-one
 
 -- the records that are reported lie within the buffer
-pub list-fits : (db : Files) (name buffer : List ℕ) (n : ℕ) → (list_outcome db name buffer).answer ≡ Count n → 12 * n ≤ length buffer
+pub list-fits : (db : Files) (name buffer : List ℕ) (n : ℕ) → (list_outcome db name buffer).answer ≡ Ok n → 12 * n ≤ length buffer
 unfolding list_outcome list_for put
 list-fits db name buffer n = go (terminal_of db name)
   where
-    go : (t : Terminal) → (list_for t buffer).answer ≡ Count n → 12 * n ≤ length buffer
+    go : (t : Terminal) → (list_for t buffer).answer ≡ Ok n → 12 * n ≤ length buffer
     go (refused r) e = let z : ◌≡◌ {A = ℕ} 0 1 = cc in absurd (omega arith)
     go (terminal names fs) f =
         let size = length (records (winning fs)) in
-        pick-told (λ (o : Outcome Written). o.answer ≡ Count n → 12 * n ≤ length buffer) (leb size (length buffer))
+        pick-told (λ (o : Outcome (Result ℕ Refusal)). o.answer ≡ Ok n → 12 * n ≤ length buffer) (leb size (length buffer))
         (λ t e. let same : length (winning fs) ≡ n = cc in omega (arith, records-length (winning fs) (winning-wins fs), leb-true size (length buffer) t))
         (λ t e. let z : ◌≡◌ {A = ℕ} 0 1 = cc in absurd (omega arith)) f

@@ -2,21 +2,19 @@
 // reported on standard error, and then nothing is printed. A program has no exit status to tell it by.
 #![tactic(auto)]
 
-ghost use Rattle.std.specs.Prelude.{◌+◌, ◌*◌, ◌≤◌, ◌≡◌, length};
+ghost use Rattle.std.specs.Prelude.{◌+◌, ◌*◌, ◌≤◌, ◌≡◌, length, Err};
 ghost use Rattle.std.proofs.lemmas.List.Edits.{sets};
 ghost use Rattle.io.specs.Counts.{IsPrefixLen};
 ghost use Rattle.spec.specs.Files.{alone};
 ghost use Rattle.spec.specs.Digits.{written};
 ghost use Rattle.spec.specs.Listing.{list_outcome};
-ghost use Rattle.spec.specs.declared.Written.TheVariants.{Refused};
 ghost use Rattle.tclist.specs.Output.{separator_of, decimals, answer_text, PutText};
 
-use check::same;
 use listing::list;
-use program_io::{Input, argument, has_argument, read_line, read_path};
-use spec::{Refusal, Written};
+use program_io::{Messages, argument, has_argument, read_line, read_path};
+use spec::Refusal;
 use std::env::Env;
-use std::io::{Error, Input as StandardInput};
+use std::io::Input;
 use std::rt::Files;
 use stores::put_byte;
 
@@ -49,10 +47,7 @@ fn put_decimal(out: &mut [u8], at: usize, b: u8) -> usize
 fn separator(k: usize) -> u8
     ensures { result ≡ separator_of k }
 {
-    if k % RECORD_BYTES == 11 {
-        return b'\n';
-    }
-    b' '
+    if k % RECORD_BYTES == 11 { b'\n' } else { b' ' }
 }
 
 fn put_records(records: &[u8], out: &mut [u8]) -> usize
@@ -61,18 +56,16 @@ fn put_records(records: &[u8], out: &mut [u8]) -> usize
     ensures upper_bound { result ≤ 4 * length records.now }
 {
     let mut n = 0;
-    let mut k = 0;
-    while k < records.len() {
-        let end = put_decimal(out, n, records[k]);
+    for (k, b) in records.iter().enumerate() {
+        let end = put_decimal(out, n, *b);
         put_byte(out, end, separator(k));
         n = end + 1;
-        k += 1;
     }
     n
 }
 
 fn put_refusal(r: Refusal, out: &mut [u8]) -> usize
-    ensures put_text { PutText (answer_text (Refused r) out.old) result out.old out.new }
+    ensures put_text { PutText (answer_text (Err r) out.old) result out.old out.new }
     ensures upper_bound { result ≤ 4 }
 {
     let end = put_decimal(out, 0, r.number());
@@ -81,7 +74,7 @@ fn put_refusal(r: Refusal, out: &mut [u8]) -> usize
 }
 
 // The listing of a terminal in a single file.
-fn list_alone(db: &[u8], name: &[u8], records: &mut [u8]) -> Written
+fn list_alone(db: &[u8], name: &[u8], records: &mut [u8]) -> Result<usize, Refusal>
     ensures { (result ≡ (list_outcome (alone db.now) name.now records.old).answer)
         × (records.new ≡ (list_outcome (alone db.now) name.now records.old).buffer) }
 {
@@ -97,57 +90,53 @@ fn put_listing(db: &[u8], name: &[u8], records: &mut [u8], out: &mut [u8]) -> us
     ensures prefix_len { IsPrefixLen result out.new }
 {
     match list_alone(db, name, records) {
-        Written::Count(n) => put_records(&records[..RECORD_BYTES * n], out),
-        Written::Refused(r) => put_refusal(r, out),
+        Ok(n) => put_records(&records[..RECORD_BYTES * n], out),
+        Err(r) => put_refusal(r, out),
     }
 }
 
 // ---- the program
 
-fn fail<E: Print>(err: &E, what: &[u8], reason: Error) {
-    program_io::fail(err, b"tclist", what, reason);
-}
-
-fn print<O: Print, E: Print>(out: &O, err: &E, text: &[u8]) {
-    program_io::print(out, err, b"tclist", text);
-}
-
-fn print_listing<O: Print, E: Print>(out: &O, err: &E, db: &[u8], name: &[u8]) {
+fn print_listing<O: Print, E: Print>(out: &O, messages: &Messages<E>, db: &[u8], name: &[u8]) {
     let mut records = [0u8; RECORDS_ROOM];
     let mut text = [0u8; TEXT_ROOM];
     let n = put_listing(db, name, &mut records, &mut text);
-    print(out, err, &text[..n]);
+    messages.print(out, &text[..n]);
 }
 
-fn list_asked<R: StandardInput + Print, E: Print>(rt: &R, err: &E, db: &[u8]) {
+fn list_asked<R: Input + Print, E: Print>(rt: &R, messages: &Messages<E>, db: &[u8]) {
     let mut name = [0u8; NAME_ROOM];
     let mut input = rt.reader();
     match read_line(&mut input, &mut name) {
-        Input::Bytes(n) => print_listing(rt, err, db, &name[..n]),
-        Input::Failed(reason) => fail(err, b"standard input", reason),
+        Ok(n) => print_listing(rt, messages, db, &name[..n]),
+        Err(reason) => messages.fail(b"standard input", reason),
     }
 }
 
-fn list_database<R: StandardInput + Print, E: Print>(rt: &R, err: &E, path: &[u8], db: &[u8]) {
+fn list_database<R: Input + Print, E: Print>(
+    rt: &R,
+    messages: &Messages<E>,
+    path: &[u8],
+    db: &[u8],
+) {
     if db.len() > MOST_BYTES {
-        program_io::report(err, b"tclist", path, b": more than 65536 bytes\n");
+        messages.report(path, b": more than 65536 bytes\n");
         return;
     }
-    list_asked(rt, err, db);
+    list_asked(rt, messages, db);
 }
 
-fn list_file<R: Files + StandardInput + Print, E: Print>(rt: &R, err: &E, path: &[u8]) {
+fn list_file<R: Files + Input + Print, E: Print>(rt: &R, messages: &Messages<E>, path: &[u8]) {
     let mut db = [0u8; FILE_ROOM];
     match read_path(rt, path, &mut db) {
-        Input::Bytes(n) => list_database(rt, err, path, &db[..n]),
-        Input::Failed(reason) => fail(err, path, reason),
+        Ok(n) => list_database(rt, messages, path, &db[..n]),
+        Err(reason) => messages.fail(path, reason),
     }
 }
 
-fn print_usage<O: Print, E: Print>(out: &O, err: &E) {
-    print(
+fn print_usage<O: Print, E: Print>(out: &O, messages: &Messages<E>) {
+    messages.print(
         out,
-        err,
         b"usage: tclist FILE
 Prints the listing of the terminal that the first line of standard input names.
 FILE is a termcap database of at most 65536 bytes. Each record is printed on a
@@ -158,28 +147,30 @@ The exit status says nothing: it is 0 in every case.
     );
 }
 
-fn run<R: Files + Env + StandardInput + Print, E: Print>(rt: &R, err: &E) {
+fn run<R: Files + Env + Input + Print, E: Print>(rt: &R, messages: &Messages<E>) {
     if !has_argument(rt, 1) || has_argument(rt, 2) {
-        let _ = err.write_all(
-            b"tclist: one argument is wanted, the file; tclist --help says more\n",
-        );
+        messages.say(b"one argument is wanted, the file; tclist --help says more\n");
         return;
     }
     let mut path = io::buffer();
     match argument(rt, 1, &mut path) {
-        Input::Bytes(n) => run_on(rt, err, &path[..n]),
-        Input::Failed(reason) => fail(err, &path, reason),
+        Ok(n) => run_on(rt, messages, &path[..n]),
+        Err(reason) => messages.fail(&path, reason),
     }
 }
 
-fn run_on<R: Files + StandardInput + Print, E: Print>(rt: &R, err: &E, path: &[u8]) {
-    if same(path, b"--help") {
-        print_usage(rt, err);
+fn run_on<R: Files + Input + Print, E: Print>(rt: &R, messages: &Messages<E>, path: &[u8]) {
+    if path == b"--help".as_slice() {
+        print_usage(rt, messages);
         return;
     }
-    list_file(rt, err, path);
+    list_file(rt, messages, path);
 }
 
 fn main(rt: HostRuntime) {
-    run(&rt, &rt.stderr());
+    let messages = Messages {
+        program: b"tclist",
+        err: &rt.stderr(),
+    };
+    run(&rt, &messages);
 }

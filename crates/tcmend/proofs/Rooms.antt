@@ -1,4 +1,5 @@
 -- What a repair reports lies within its buffers. Assumes nothing.
+use Rattle.std.specs.Prelude.{Ok}
 use Prim.Native.Nat.{ℕ, ◌*◌, ◌≤◌}
 use mathlib.Core.Path.{◌≡◌}
 use mathlib.Core.List.{List}
@@ -7,15 +8,15 @@ use borrow.Author.Tests.{leb-true}
 use lib.Dec.{leb}
 use lib.ListN.{length}
 use Rattle.spec.specs.Choice.{both}
+use Rattle.spec.specs.declared.Amounts.{Amounts}
 use Rattle.spec.specs.Refusals.{too_large}
-use Rattle.spec.specs.declared.Repaired.TheVariants.{Counts}
 use Rattle.spec.specs.Repair.{mended, flattened, RepairOutcome, too_many_lines, put_mended, repair_outcome}
 use Rattle.laws.proofs.Tests.{pick-told, both_true}
 use Rattle.laws.proofs.RecordRoom.{mended-sixteen}
 
-module _ (db text records : List ℕ) (bytes count : ℕ) where
+module _ (db text records : List ℕ) (a : Amounts) where
   abbrev Fits : RepairOutcome → Type 0
-  Fits o = o.answer ≡ Counts bytes count → (bytes ≤ length text) × (count * 16 ≤ length records)
+  Fits o = o.answer ≡ Ok a → (a.bytes ≤ length text) × (a.records * 16 ≤ length records)
 
   put-fits : Fits (put_mended (mended db) text records)
   unfolding put_mended
@@ -23,10 +24,10 @@ module _ (db text records : List ℕ) (bytes count : ℕ) where
       let flat = flattened (mended db).records in
       pick-told Fits (both (leb (length (mended db).text) (length text)) (leb (length flat) (length records)))
       (λ t e.
-      let b : length (mended db).text ≡ bytes = cc in
-      let n : length (mended db).records ≡ count = cc in
-      let h = both_true _ _ t in (
-        omega (arith, leb-true (length (mended db).text) (length text) h.0),
+      let all : ◌≡◌ {A = Amounts} (record { bytes = length (mended db).text; records = length (mended db).records }) a = cc in
+      let h = both_true _ _ t in
+      rw (← all) (
+        leb-true (length (mended db).text) (length text) h.0,
         omega (arith, leb-true (length flat) (length records) h.1, mended-sixteen db),
       ))
       (λ t e. let z : ◌≡◌ {A = ℕ} 0 1 = cc in absurd (omega arith))

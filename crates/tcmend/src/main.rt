@@ -4,18 +4,18 @@
 #![tactic(auto)]
 
 ghost use Rattle.std.specs.Prelude.{◌+◌, ◌*◌, ◌≤◌, ◌<◌, ◌≡◌, length};
-ghost use Rattle.spec.specs.Lines.{line_at, is_ignored};
+ghost use Rattle.spec.specs.Lines.{line_at, text_at, is_ignored};
 ghost use Rattle.spec.specs.Choice.{pick};
 ghost use Rattle.spec.specs.Repair.{lines_of, descriptions};
-ghost use Rattle.removal_notes.specs.Notes.{Stands};
+ghost use Rattle.removal_notes.specs.Notes.{Put, Stands, note, position_of, shown};
+ghost use Rattle.tcmend.specs.Reasons.{reason_text};
 
-use check::same;
-use lines::{Next, is_ignored, next_line};
+use lines::{is_ignored, next_line};
 use mended_fields::RECORD_SIZE;
-use program_io::{Input, argument, has_argument, name, put_decimal, read_path};
+use program_io::{Messages, argument, has_argument, name, put_decimal, read_path};
 use removal_notes::{Spot, find_spot, own_position, put_note};
 use repair::repair;
-use spec::{MOST_BYTES, Refusal, Repaired};
+use spec::{MOST_BYTES, Refusal};
 use std::env::Env;
 use std::fs;
 use std::fs::{OpenFile, OpenOptions};
@@ -36,89 +36,121 @@ fn megabyte() -> [u8; 1048577]
     [0; 1048577]
 }
 
-fn fail<E: Print>(err: &E, what: &[u8], reason: Error) {
-    program_io::fail(err, b"tcmend", what, reason);
+// ---- what travels together
+
+// A file's name, as an argument gave it.
+#[derive(Clone, Copy)]
+struct Path<'a> {
+    name: &'a [u8],
+    ghost short: { length name.now ≤ 4096 },
 }
 
-fn report<E: Print>(err: &E, path: &[u8], what: &[u8]) {
-    program_io::report(err, b"tcmend", path, what);
+// A database that is mended, and the file that it came from.
+#[derive(Clone, Copy)]
+struct Database<'a> {
+    path: Path<'a>,
+    bytes: &'a [u8],
+    ghost bounded: { length bytes.now ≤ 1048576 },
+}
+
+// The mended text, and a record for each thing that was removed.
+#[derive(Clone, Copy)]
+struct Mended<'a> {
+    text: &'a [u8],
+    records: &'a [u8],
+    ghost text_bounded: { length text.now ≤ 1048577 },
+    ghost records_bounded: { length records.now ≤ 1048577 },
 }
 
 // ---- the notes
+
+// Why a thing was removed.
+#[derive(Clone, Copy, PartialEq, Eq)]
+enum Reason {
+    NoColon,
+    Malformed,
+    AfterLink,
+    UnknownName,
+    Ring,
+}
+
+// As a record has it, in four bytes.
+impl From<u32> for Reason {
+    fn from(n: u32) -> Reason {
+        match n {
+            1 => Reason::NoColon,
+            2 => Reason::Malformed,
+            3 => Reason::AfterLink,
+            4 => Reason::UnknownName,
+            _ => Reason::Ring,
+        }
+    }
+}
+
+impl Reason {
+    fn text(self) -> &'static [u8]
+        ensures { (result.now ≡ reason_text self) × (length result.now ≤ 100) }
+    {
+        match self {
+            Reason::NoColon => b"line without a colon dropped",
+            Reason::Malformed => b"malformed field removed",
+            Reason::AfterLink => b"field after a link removed",
+            Reason::UnknownName => b"link to an unknown name removed",
+            Reason::Ring => b"link that comes back to its own line removed",
+        }
+    }
+}
 
 // A record of a removal: its logical line and its place there, the reason, and its joined bytes.
 #[derive(Clone, Copy)]
 struct Removal {
     line: usize,
     place: usize,
-    reason: usize,
+    reason: Reason,
     count: usize,
 }
 
 // A 32-bit number, high byte first.
-fn number_at(records: &[u8], at: usize) -> usize
-    requires { at + 3 < length records.now }
+fn number_at(entry: &[u8], at: usize) -> u32
+    requires { at + 3 < length entry.now }
 {
-    let high = wide(records[at]) * 256 + wide(records[at + 1]);
-    let low = wide(records[at + 2]) * 256 + wide(records[at + 3]);
-    high * 65536 + low
+    u32::from_be_bytes([entry[at], entry[at + 1], entry[at + 2], entry[at + 3]])
 }
 
-fn wide(b: u8) -> usize
-    ensures { result < 256 }
-{
-    b as usize
-}
-
-fn removal_at(records: &[u8], at: usize) -> Removal
-    requires { at + 15 < length records.now }
+fn removal_in(entry: &[u8]) -> Removal
+    requires { 15 < length entry.now }
 {
     Removal {
-        line: number_at(records, at),
-        place: number_at(records, at + 4),
-        reason: number_at(records, at + 8),
-        count: number_at(records, at + 12),
+        line: number_at(entry, 0) as usize,
+        place: number_at(entry, 4) as usize,
+        reason: Reason::from(number_at(entry, 8)),
+        count: number_at(entry, 12) as usize,
     }
 }
 
-fn put_removal(path: &[u8], db: &[u8], s: Spot, r: Removal, out: &mut [u8]) -> usize
-    requires { (length path.now ≤ 4096) × (length db.now ≤ 1048576) × Stands db.now s }
-    ensures { result ≤ 4500 }
+fn put_removal(db: Database, s: Spot, r: Removal, out: &mut [u8]) -> usize
+    requires { Stands db.bytes.now s }
+    ensures { Put (note db.entry.path.name.now (position_of db.entry.bytes.now s.line s.place) (reason_text r.reason)
+        (shown r.count (text_at db.entry.bytes.now s.at))) out.old 0 out.new result
+        × (result ≤ 4500) }
 {
-    let p = own_position(db, s);
-    let at = s.at;
-    let count = r.count;
-    let reason = r.reason;
-    match reason {
-        1 => put_note(path, p, b"line without a colon dropped", db, at, count, out),
-        2 => put_note(path, p, b"malformed field removed", db, at, count, out),
-        3 => put_note(path, p, b"field after a link removed", db, at, count, out),
-        4 => put_note(
-            path,
-            p,
-            b"link to an unknown name removed",
-            db,
-            at,
-            count,
-            out,
-        ),
-        _ => put_note(
-            path,
-            p,
-            b"link that comes back to its own line removed",
-            db,
-            at,
-            count,
-            out,
-        ),
-    }
+    let position = own_position(db.bytes, s);
+    put_note(
+        db.path.name,
+        position,
+        r.reason.text(),
+        db.bytes,
+        s.at,
+        r.count,
+        out,
+    )
 }
 
-fn write_note<P: Print>(to: &P, path: &[u8], db: &[u8], s: Spot, r: Removal) -> Result<()>
-    requires { (length path.now ≤ 4096) × (length db.now ≤ 1048576) × Stands db.now s }
+fn write_note<P: Print>(to: &P, db: Database, s: Spot, r: Removal) -> Result<()>
+    requires { Stands db.bytes.now s }
 {
     let mut out = [0u8; NOTE_ROOM];
-    let n = put_removal(path, db, s, r, &mut out);
+    let n = put_removal(db, s, r, &mut out);
     to.write_all(&out[..n])
 }
 
@@ -129,7 +161,7 @@ struct Told {
     changed: usize,
     dropped: usize,
     // The logical line of the last field.
-    line: usize,
+    line: Option<usize>,
 }
 
 impl Told {
@@ -140,7 +172,7 @@ impl Told {
             fields: 0,
             changed: 0,
             dropped: 0,
-            line: MOST_BYTES + 1,
+            line: None,
         }
     }
 
@@ -149,34 +181,32 @@ impl Told {
         ensures { (result.fields ≤ self.fields + 1) × (result.changed ≤ self.changed + 1) × (result.dropped ≤ self.dropped + 1) }
     {
         let mut told = self;
-        if r.reason == 1 {
-            told.dropped = self.dropped + 1;
+        if r.reason == Reason::NoColon {
+            told.dropped += 1;
             return told;
         }
-        told.fields = self.fields + 1;
-        if r.line != self.line {
-            told.changed = self.changed + 1;
-            told.line = r.line;
+        told.fields += 1;
+        if self.line != Some(r.line) {
+            told.changed += 1;
+            told.line = Some(r.line);
         }
         told
     }
 }
 
 // The notes of all records, and the summary.
-fn tell<P: Print>(to: &P, path: &[u8], db: &[u8], records: &[u8], left: usize) -> Result<()>
-    requires { (length path.now ≤ 4096) × (length db.now ≤ 1048576) × (length records.now ≤ 1048577) }
+fn tell<P: Print>(to: &P, db: Database, records: &[u8], left: usize) -> Result<()>
+    requires { length records.now ≤ 1048577 }
 {
-    let mut spot = Spot::first(db);
+    let mut spot = Spot::first(db.bytes);
     let mut told = Told::nothing();
-    let mut at = 0;
-    while at + RECORD_SIZE <= records.len() {
-        let r = removal_at(records, at);
-        spot = find_spot(db, spot, r.line, r.place);
-        write_note(to, path, db, spot, r)?;
+    for entry in records.chunks_exact(RECORD_SIZE) {
+        let r = removal_in(entry);
+        spot = find_spot(db.bytes, spot, r.line, r.place);
+        write_note(to, db, spot, r)?;
         told = told.with(r);
-        at += RECORD_SIZE;
     }
-    write_summary(to, path, told, left)
+    write_summary(to, db.path, told, left)
 }
 
 // ---- the summary
@@ -187,21 +217,17 @@ fn put_count(out: &mut [u8], at: usize, n: usize, one: &[u8], many: &[u8]) -> us
     ensures { result ≤ at + 120 }
 {
     let end = put_decimal(out, at, n as u64);
-    if n == 1 {
-        put_bytes(out, end, one);
-        return end + one.len();
-    }
-    put_bytes(out, end, many);
-    end + many.len()
+    let counted = if n == 1 { one } else { many };
+    put_bytes(out, end, counted);
+    end + counted.len()
 }
 
-fn put_summary(path: &[u8], told: Told, left: usize, out: &mut [u8]) -> usize
-    requires { length path.now ≤ 4096 }
+fn put_summary(path: Path, told: Told, left: usize, out: &mut [u8]) -> usize
     ensures { result ≤ 5000 }
 {
-    put_bytes(out, 0, path);
-    put_bytes(out, path.len(), b": ");
-    let at = path.len() + 2;
+    put_bytes(out, 0, path.name);
+    put_bytes(out, path.name.len(), b": ");
+    let at = path.name.len() + 2;
     let fields = put_count(
         out,
         at,
@@ -232,9 +258,7 @@ fn put_summary(path: &[u8], told: Told, left: usize, out: &mut [u8]) -> usize
     )
 }
 
-fn write_summary<P: Print>(to: &P, path: &[u8], told: Told, left: usize) -> Result<()>
-    requires { length path.now ≤ 4096 }
-{
+fn write_summary<P: Print>(to: &P, path: Path, told: Told, left: usize) -> Result<()> {
     let mut out = [0u8; NOTE_ROOM];
     let n = put_summary(path, told, left, &mut out);
     to.write_all(&out[..n])
@@ -244,10 +268,7 @@ fn write_summary<P: Print>(to: &P, path: &[u8], told: Told, left: usize) -> Resu
 fn count_line(db: &[u8], at: usize) -> usize
     ensures { (result ≡ pick (is_ignored (line_at db.now at)) 0 1) × (result ≤ 1) }
 {
-    if is_ignored(db, at) {
-        return 0;
-    }
-    1
+    if is_ignored(db, at) { 0 } else { 1 }
 }
 
 fn count_descriptions(db: &[u8]) -> usize
@@ -259,19 +280,25 @@ fn count_descriptions(db: &[u8]) -> usize
     loop {
         n += count_line(db, at);
         match next_line(db, at) {
-            Next::To(next) => at = next,
-            Next::Last => return n,
+            Some(next) => at = next,
+            None => return n,
         }
     }
 }
 
 // ---- the new file
 
+// What failed, and the reason that the system gives.
+#[derive(Clone, Copy)]
+struct Failure<'a> {
+    what: &'a [u8],
+    reason: Error,
+}
+
 // Writes and closes the file; all of it is on the disk then.
-fn store<F: Write + OpenFile + Drop>(file: F, text: &[u8]) -> Result<()> {
-    let mut open = file;
-    open.write_all(text)?;
-    open.sync_all()
+fn store<F: Write + OpenFile + Drop>(mut file: F, text: &[u8]) -> Result<()> {
+    file.write_all(text)?;
+    file.sync_all()
 }
 
 // A file that was not there before.
@@ -291,184 +318,148 @@ fn remove<R: Files>(rt: &R, path: &[u8]) -> Result<()> {
 }
 
 // Stores the text in the new file of the temporary name.
-fn store_in<R: Files, E: Print>(
+fn store_in<'a, R: Files>(
     rt: &R,
-    err: &E,
     file: R::File,
-    from: &[u8],
-    path: &[u8],
+    from: &'a [u8],
+    path: &'a [u8],
     text: &[u8],
-) -> bool {
-    if let Err(reason) = store(file, text) {
-        fail(err, from, reason);
-        return false;
-    }
-    if let Err(reason) = rename(rt, from, path) {
-        fail(err, path, reason);
-        return false;
-    }
-    true
+) -> std::result::Result<(), Failure<'a>> {
+    store(file, text).map_err(|reason| Failure { what: from, reason })?;
+    rename(rt, from, path).map_err(|reason| Failure { what: path, reason })
 }
 
-fn store_as<R: Files, E: Print>(rt: &R, err: &E, from: &[u8], path: &[u8], text: &[u8]) -> bool {
-    match create(rt, from) {
-        Ok(file) => {
-            if store_in(rt, err, file, from, path, text) {
-                return true;
-            }
-            let _ = remove(rt, from);
-            false
-        }
-        Err(reason) => {
-            fail(err, from, reason);
-            false
-        }
+fn store_as<'a, R: Files>(
+    rt: &R,
+    from: &'a [u8],
+    path: &'a [u8],
+    text: &[u8],
+) -> std::result::Result<(), Failure<'a>> {
+    let file = create(rt, from).map_err(|reason| Failure { what: from, reason })?;
+    let stored = store_in(rt, file, from, path, text);
+    if stored.is_err() {
+        let _ = remove(rt, from);
     }
+    stored
 }
 
-// Under a temporary name first, the path and `.tcmend`.
-fn replace<R: Files, E: Print>(rt: &R, err: &E, path: &[u8], text: &[u8]) -> bool
-    requires { length path.now ≤ 4096 }
-{
+// Whether the text is in the file. Under a temporary name first, the path and `.tcmend`.
+fn replace<R: Files, E: Print>(rt: &R, messages: &Messages<E>, path: Path, text: &[u8]) -> bool {
     let mut from = [0u8; TEMPORARY_ROOM];
-    put_bytes(&mut from, 0, path);
-    put_bytes(&mut from, path.len(), b".tcmend");
-    let n = path.len() + 7;
-    store_as(rt, err, &from[..n], path, text)
+    put_bytes(&mut from, 0, path.name);
+    put_bytes(&mut from, path.name.len(), b".tcmend");
+    let n = path.name.len() + 7;
+    match store_as(rt, &from[..n], path.name, text) {
+        Ok(()) => true,
+        Err(failure) => {
+            messages.fail(failure.what, failure.reason);
+            false
+        }
+    }
 }
 
 // ---- the program
 
-fn say_nothing_to_mend<P: Print>(to: &P, path: &[u8]) -> Result<()> {
-    to.write_all(path)?;
+fn say_nothing_to_mend<P: Print>(to: &P, path: Path) -> Result<()> {
+    to.write_all(path.name)?;
     to.write_all(b": nothing to mend\n")
 }
 
 // The notes of all records, or that there are none.
-fn put_notes<P: Print>(to: &P, path: &[u8], db: &[u8], text: &[u8], records: &[u8]) -> Result<()>
-    requires { (length path.now ≤ 4096) × (length db.now ≤ 1048576) × (length text.now ≤ 1048577) × (length records.now ≤ 1048577) }
-{
-    if records.len() == 0 {
-        return say_nothing_to_mend(to, path);
+fn put_notes<P: Print>(to: &P, db: Database, mended: Mended) -> Result<()> {
+    if mended.records.is_empty() {
+        return say_nothing_to_mend(to, db.path);
     }
-    tell(to, path, db, records, count_descriptions(text))
+    tell(to, db, mended.records, count_descriptions(mended.text))
 }
 
 // The notes on standard output or standard error.
-fn write_notes<P: Print, E: Print>(
-    to: &P,
-    err: &E,
-    path: &[u8],
-    db: &[u8],
-    text: &[u8],
-    records: &[u8],
-)
-    requires { (length path.now ≤ 4096) × (length db.now ≤ 1048576) × (length text.now ≤ 1048577) × (length records.now ≤ 1048577) }
-{
-    if let Err(reason) = put_notes(to, path, db, text, records) {
-        fail(err, b"the notes", reason);
+fn write_notes<P: Print, E: Print>(to: &P, messages: &Messages<E>, db: Database, mended: Mended) {
+    if let Err(reason) = put_notes(to, db, mended) {
+        messages.fail(b"the notes", reason);
     }
 }
 
 // A database with nothing to mend is not written to a file.
 fn deliver<R: Files + Print, E: Print>(
     rt: &R,
-    err: &E,
-    path: &[u8],
-    new: &[u8],
-    to_file: bool,
-    db: &[u8],
-    text: &[u8],
-    records: &[u8],
-)
-    requires path_len_bound { (length path.now ≤ 4096) × (length new.now ≤ 4096) }
-    requires db_len_bound { (length db.now ≤ 1048576) × (length text.now ≤ 1048577) × (length records.now ≤ 1048577) }
-{
-    if to_file {
-        if records.len() > 0 {
-            if !replace(rt, err, new, text) {
-                return;
+    messages: &Messages<E>,
+    new: Option<Path>,
+    db: Database,
+    mended: Mended,
+) {
+    match new {
+        Some(path) => {
+            if mended.records.is_empty() || replace(rt, messages, path, mended.text) {
+                write_notes(rt, messages, db, mended);
             }
         }
-        write_notes(rt, err, path, db, text, records);
-        return;
+        None => match rt.write_all(mended.text) {
+            Ok(()) => write_notes(messages.err, messages, db, mended),
+            Err(reason) => messages.fail(b"standard output", reason),
+        },
     }
-    if let Err(reason) = rt.write_all(text) {
-        fail(err, b"standard output", reason);
-        return;
-    }
-    write_notes(err, err, path, db, text, records);
 }
 
-fn refuse<E: Print>(err: &E, path: &[u8], r: Refusal) {
-    match r {
-        Refusal::TooManyLines => report(err, path, b": more than 4096 descriptions\n"),
-        _ => report(err, path, b": more than 65536 things to remove\n"),
-    }
+fn refuse<E: Print>(messages: &Messages<E>, path: Path, r: Refusal) {
+    let what = match r {
+        Refusal::TooManyLines => b": more than 4096 descriptions\n".as_slice(),
+        _ => b": more than 65536 things to remove\n".as_slice(),
+    };
+    messages.report(path.name, what);
 }
 
 fn mend<R: Files + Print, E: Print>(
     rt: &R,
-    err: &E,
-    path: &[u8],
-    new: &[u8],
-    to_file: bool,
-    db: &[u8],
-)
-    requires { (length path.now ≤ 4096) × (length new.now ≤ 4096) × (length db.now ≤ 1048576) }
-{
+    messages: &Messages<E>,
+    new: Option<Path>,
+    db: Database,
+) {
     let mut text = megabyte();
     let mut records = megabyte();
-    match repair(db, &mut text, &mut records) {
-        Repaired::Counts(bytes, count) => {
-            let size = count * RECORD_SIZE;
-            deliver(
-                rt,
-                err,
-                path,
-                new,
-                to_file,
-                db,
-                &text[..bytes],
-                &records[..size],
-            );
+    match repair(db.bytes, &mut text, &mut records) {
+        Ok(amounts) => {
+            let size = amounts.records * RECORD_SIZE;
+            let mended = Mended {
+                text: &text[..amounts.bytes],
+                records: &records[..size],
+            };
+            deliver(rt, messages, new, db, mended);
         }
-        Repaired::Refused(r) => refuse(err, path, r),
+        Err(r) => refuse(messages, db.path, r),
     }
 }
 
 fn mend_read<R: Files + Print, E: Print>(
     rt: &R,
-    err: &E,
-    path: &[u8],
-    new: &[u8],
-    to_file: bool,
-    db: &[u8],
-)
-    requires { (length path.now ≤ 4096) × (length new.now ≤ 4096) }
-{
-    if db.len() > MOST_BYTES {
-        report(err, path, b": more than 1048576 bytes\n");
+    messages: &Messages<E>,
+    path: Path,
+    new: Option<Path>,
+    bytes: &[u8],
+) {
+    if bytes.len() > MOST_BYTES {
+        messages.report(path.name, b": more than 1048576 bytes\n");
         return;
     }
-    mend(rt, err, path, new, to_file, db);
+    mend(rt, messages, new, Database { path, bytes });
 }
 
-fn mend_file<R: Files + Print, E: Print>(rt: &R, err: &E, path: &[u8], new: &[u8], to_file: bool)
-    requires { (length path.now ≤ 4096) × (length new.now ≤ 4096) }
-{
+fn mend_file<R: Files + Print, E: Print>(
+    rt: &R,
+    messages: &Messages<E>,
+    path: Path,
+    new: Option<Path>,
+) {
     let mut db = megabyte();
-    match read_path(rt, path, &mut db) {
-        Input::Bytes(n) => mend_read(rt, err, path, new, to_file, &db[..n]),
-        Input::Failed(reason) => fail(err, path, reason),
+    match read_path(rt, path.name, &mut db) {
+        Ok(n) => mend_read(rt, messages, path, new, &db[..n]),
+        Err(reason) => messages.fail(path.name, reason),
     }
 }
 
-fn print_usage<O: Print, E: Print>(out: &O, err: &E) {
-    program_io::print(
+fn print_usage<O: Print, E: Print>(out: &O, messages: &Messages<E>) {
+    messages.print(
         out,
-        err,
-        b"tcmend",
         b"usage: tcmend FILE        writes the mended database to standard output
        tcmend FILE NEW    writes it to the file NEW, which may be FILE
 Removes from a termcap database what makes names unusable: lines without a
@@ -483,44 +474,42 @@ The exit status says nothing: it is 0 in every case.
     );
 }
 
-fn mend_to<R: Env + Files + Print, E: Print>(rt: &R, err: &E, path: &[u8])
-    requires { length path.now ≤ 4096 }
-{
+fn mend_to<R: Env + Files + Print, E: Print>(rt: &R, messages: &Messages<E>, path: Path) {
     let mut new = io::buffer();
     match argument(rt, 2, &mut new) {
-        Input::Bytes(n) => mend_file(rt, err, path, &new[..n], true),
-        Input::Failed(reason) => fail(err, &new, reason),
+        Ok(n) => mend_file(rt, messages, path, Some(Path { name: &new[..n] })),
+        Err(reason) => messages.fail(&new, reason),
     }
 }
 
-fn mend_asked<R: Env + Files + Print, E: Print>(rt: &R, err: &E, path: &[u8])
-    requires { length path.now ≤ 4096 }
-{
+fn mend_asked<R: Env + Files + Print, E: Print>(rt: &R, messages: &Messages<E>, path: Path) {
     if has_argument(rt, 2) {
-        mend_to(rt, err, path);
+        mend_to(rt, messages, path);
         return;
     }
-    if same(path, b"--help") {
-        print_usage(rt, err);
+    if path.name == b"--help".as_slice() {
+        print_usage(rt, messages);
         return;
     }
-    mend_file(rt, err, path, b"", false);
+    mend_file(rt, messages, path, None);
 }
 
-fn run<R: Env + Files + Print, E: Print>(rt: &R, err: &E) {
+fn run<R: Env + Files + Print, E: Print>(rt: &R, messages: &Messages<E>) {
     if !has_argument(rt, 1) || has_argument(rt, 3) {
-        let _ = err.write_all(
-            b"tcmend: a file is wanted, and perhaps a new one; tcmend --help says more\n",
-        );
+        messages.say(b"a file is wanted, and perhaps a new one; tcmend --help says more\n");
         return;
     }
     let mut path = io::buffer();
     match argument(rt, 1, &mut path) {
-        Input::Bytes(n) => mend_asked(rt, err, &path[..n]),
-        Input::Failed(reason) => fail(err, &path, reason),
+        Ok(n) => mend_asked(rt, messages, Path { name: &path[..n] }),
+        Err(reason) => messages.fail(&path, reason),
     }
 }
 
 fn main(rt: HostRuntime) {
-    run(&rt, &rt.stderr());
+    let messages = Messages {
+        program: b"tcmend",
+        err: &rt.stderr(),
+    };
+    run(&rt, &messages);
 }

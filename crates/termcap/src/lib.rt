@@ -23,7 +23,7 @@ ghost use Rattle.c_results.specs.Results.{result_of, stored_value, stored_length
 
 pub use batch::batch;
 pub use finder::{
-    Turn, answer as finder_answer, end as finder_end, feed as finder_feed, open as finder_open,
+    answer as finder_answer, end as finder_end, feed as finder_feed, open as finder_open,
 };
 pub use finder_calls::{
     termcap_finder_answer, termcap_finder_end, termcap_finder_feed, termcap_finder_open,
@@ -38,7 +38,7 @@ pub use repair::repair;
 pub use sending::{fill, pad, send, send_at};
 pub use show::{show, show_part};
 pub use spec::finder::Finder;
-pub use spec::{Answer, Fill, Finished, Kind, Refusal, Repaired, Searched, Shown, Written};
+pub use spec::{Amounts, Finished, Kind, Part, Refusal, Tally};
 
 // ---- Show ----
 

@@ -1,5 +1,6 @@
 -- The terminal of a name, by its tests in order.
 -- Assumes nothing.
+use Rattle.std.specs.Prelude.{Result, Ok, Err}
 use Prim.Native.Nat.{ℕ, ◌≤◌, ◌<◌}
 use mathlib.Core.Path.{◌≡◌}
 use mathlib.Core.Bool.{true, false}
@@ -13,9 +14,8 @@ use Rattle.spec.specs.Questions.{terminal_of}
 use Rattle.spec.specs.declared.Refusal.TheVariants.{BadName, DatabaseTooLarge, BadEnds}
 use Rattle.chain.specs.Answers.{Walked}
 use Rattle.chain.specs.declared.Chain.{Chain}
-use Rattle.chain.specs.declared.Ended.{Ended}
-use Rattle.chain.specs.declared.Ended.TheVariants.{Accepted, Refused}
 use Rattle.terminal.specs.Answers.{Resolved}
+use Rattle.spec.specs.declared.Refusal.{Refusal}
 
 module _ (db : Files) (name : List ℕ) where
   pub terminal-ends : good_ends db ≡ false → terminal_of db name ≡ refused BadEnds
@@ -36,7 +36,7 @@ module _ (db : Files) (name : List ℕ) where
     terminal_walked = rw (g, e, le-ltb 1048576 (length db.bytes) h)
 
     -- what the walk ends with
-    pub walked_resolved : (c : Chain) (w : Ended) → Walked (contents db) name c w → Resolved db name c w
+    pub walked_resolved : (w : Result Chain Refusal) → Walked (contents db) name w → Resolved db name w
     unfolding described
-    walked_resolved c Accepted q = (rw (terminal_walked, q.0), q.1, q.2, h)
-    walked_resolved c (Refused r) q = (rw (terminal_walked, q.0), q.1)
+    walked_resolved (Ok c) q = (rw (terminal_walked, q.0), q.1, q.2, h)
+    walked_resolved (Err r) q = rw (terminal_walked, q)

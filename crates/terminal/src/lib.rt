@@ -4,23 +4,23 @@
 ghost use Rattle.spec.specs.Files.{files};
 ghost use Rattle.terminal.specs.Answers.{Resolved};
 
-use chain::{Walk, follow_links, no_chain};
+use chain::{Chain, follow_links};
 use files::are_good_ends;
 use identifiers::is_good_name;
 use spec::{MOST_BYTES, Refusal};
 
 // "Ends that fall, or pass the buffer, or more than eight, are the new refusal 16, before all others"; "limit 3 is for all of it".
-pub fn resolve(db: &[u8], ends: &[usize], name: &[u8]) -> Walk
-    ensures { Resolved (files db.now ends.now) name.now result.chain result.ended }
+pub fn resolve(db: &[u8], ends: &[usize], name: &[u8]) -> Result<Chain, Refusal>
+    ensures { Resolved (files db.now ends.now) name.now result }
 {
     if !are_good_ends(db, ends) {
-        return no_chain(Refusal::BadEnds);
+        return Err(Refusal::BadEnds);
     }
     if !is_good_name(name) {
-        return no_chain(Refusal::BadName);
+        return Err(Refusal::BadName);
     }
     if db.len() > MOST_BYTES {
-        return no_chain(Refusal::DatabaseTooLarge);
+        return Err(Refusal::DatabaseTooLarge);
     }
     follow_links(db, ends, name)
 }

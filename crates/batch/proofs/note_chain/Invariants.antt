@@ -1,22 +1,17 @@
 -- `batch::note_chain` meets its contract: the lines that are left, taken into the tables, give the whole chain.
-use Prim.Native.Nat.{ℕ, ◌-◌, ◌≤◌}
-use mathlib.Core.Path.{◌≡◌}
+use Prim.Native.Nat.{ℕ}
 use mathlib.Core.List.{List}
-use lib.ListN.{length, take}
+use lib.ListN.{take}
 use Rattle.spec.specs.Files.{files, contents}
 use Rattle.spec.specs.Chain.{joined_fields}
 use Rattle.spec.specs.declared.Location.{Location}
 use Rattle.chain.proofs.JoinedFields.{fields_from}
 use Rattle.batch.specs.Answers.{Notes}
+use Rattle.batch.specs.declared.Tables.{Tables}
 use Rattle.batch.proofs.note_chain.Given as goal
 
-abbrev pub Left : List (List ℕ) → List Location → ℕ → List ℕ → List ℕ → List ℕ → List ℕ → ℕ → Type 0
-Left db lines n marks₀ values₀ marks values i =
-    (m v : List ℕ) → Notes (fields_from db lines n i) marks values m v → Notes (joined_fields db 0 (take n lines)) marks₀ values₀ m v
+abbrev pub Left : List (List ℕ) → List Location → ℕ → Tables → Tables → ℕ → Type 0
+Left db lines n tables₀ tables i = (t : Tables) → Notes (fields_from db lines n i) tables t → Notes (joined_fields db 0 (take n lines)) tables₀ t
 
-abbrev pub invariant-loop-i : goal.invariant-loop-i
-invariant-loop-i l =
-    (length l.lines ≡ 32) × (l.n ≤ 32) × Left (contents (files l.db l.ends)) l.lines l.n l.initial.marks l.initial.values l.marks l.values l.i
-
-abbrev pub decreases-loop-i : goal.decreases-loop-i
-decreases-loop-i l = l.n - l.i
+abbrev pub invariant-loop-p : goal.invariant-loop-p
+invariant-loop-p l = Left (contents (files l.db l.ends)) l.fn.c.lines l.fn.c.count l.initial.tables l.tables l.p-index

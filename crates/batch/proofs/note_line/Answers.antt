@@ -11,19 +11,19 @@ unfolding placed
 returns-in_default c place file =
     let a = c.args in
     let p = c.in_default.ensures in
-    rw (no_fields _ p) (notes_nothing a.marks.now a.values.now)
+    rw (no_fields _ p) (notes_nothing a.tables.now)
 
 pub slice_bounds-note_fields-count : goal.slice_bounds-note_fields-count
 slice_bounds-note_fields-count c =
-    let p = c.in-At.ensures in
+    let p = c.in-Some.ensures in
     omega arith
 
 pub slice_bounds-note_fields-start : goal.slice_bounds-note_fields-start
 slice_bounds-note_fields-start c =
-    let p = c.in-At.ensures in
+    let p = c.in-Some.ensures in
     omega arith
 
 pub returns : goal.returns
 returns c place file =
-    let p = c.in-At.ensures in
+    let p = c.in-Some.ensures in
     rw (← part_fields _ _ _ _ p) (c.note_fields.ensures place file)

@@ -1,13 +1,13 @@
 -- `batch::put_answer` meets its contract, by the answer.
 use Rattle.batch.proofs.put_answer.Goals as goal
 
-pub returns-in-Present : goal.returns-in-Present
-returns-in-Present c = rw c.in-Present.is c.put_parts.ensures
+pub returns-in-Some : goal.returns-in-Some
+returns-in-Some c = let e = c.in-Ok.is in let i = c.in-Some.is in rw (e, i) c.put_parts.ensures
 
-pub returns-in-Absent : goal.returns-in-Absent
-returns-in-Absent c = rw c.in-Absent.is c.put_parts-in-Absent.ensures
+pub returns-in-None : goal.returns-in-None
+returns-in-None c = let e = c.in-Ok.is in let i = c.in-None.is in rw (e, i) c.put_parts-in-None.ensures
 
-pub returns-in-Refused : goal.returns-in-Refused
-returns-in-Refused c =
-    rw (c.in-Refused.is, ← c.number.ensures)
-    c.put_parts-in-Refused.ensures
+pub returns-in-Err : goal.returns-in-Err
+returns-in-Err c =
+    rw (c.in-Err.is, ← c.number.ensures)
+    c.put_parts-in-Err.ensures

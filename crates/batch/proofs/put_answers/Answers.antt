@@ -5,7 +5,7 @@ use Rattle.batch.proofs.Answered.{answered_on, answered-all}
 use Rattle.batch.proofs.put_answers.Goals as goal
 
 pub loop-i-init : goal.loop-i-init
-loop-i-init c = (omega arith, refl, λ t w. refl)
+loop-i-init c = (refl, λ t w. refl)
 
 pub loop-i-preserved : goal.loop-i-preserved
 loop-i-preserved c =
@@ -13,14 +13,13 @@ loop-i-preserved c =
     let a = c.args in
     let q = c.question_at in
     let x = c.answer_one-answer in (
-      omega arith,
-      c.out-1.given ∙ l.invariant.1,
+      c.out-1.given ∙ l.invariant.0,
       λ t w.
-          l.invariant.2 t w ∙ answered_on t a.questions.now l.out l.i q.result x.result q.ensures (x.ensures t w)
+          l.invariant.1 t w ∙ answered_on t a.questions.now l.out l.i q.result x.result q.ensures (x.ensures t w)
           ∙ rw (← c.put_answer.ensures),
     )
 
 pub returns : goal.returns
 returns c t w =
     let l = c.loop-i in
-    sym (l.invariant.2 t w ∙ answered-all t c.args.questions.now l.out l.i (omega arith))
+    sym (l.invariant.1 t w ∙ answered-all t c.args.questions.now l.out l.i (omega arith))

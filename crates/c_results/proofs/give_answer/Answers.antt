@@ -4,15 +4,15 @@ use Rattle.c_results.specs.Results.{result_of, stored_value}
 use Rattle.c_results.proofs.RefusalResults.{refused_result}
 use Rattle.c_results.proofs.give_answer.Goals as goal
 
-pub returns-in-Present : goal.returns-in-Present
+pub returns-in-Some : goal.returns-in-Some
 unfolding result_of stored_value
-returns-in-Present c = (rw c.in-Present.is, rw c.in-Present.is)
+returns-in-Some c = let e = c.in-Ok.is in let i = c.in-Some.is in (rw (e, i), rw (e, i))
 
-pub returns-in-Absent : goal.returns-in-Absent
+pub returns-in-None : goal.returns-in-None
 unfolding result_of stored_value
-returns-in-Absent c = (rw c.in-Absent.is, rw c.in-Absent.is)
+returns-in-None c = let e = c.in-Ok.is in let i = c.in-None.is in (rw (e, i), rw (e, i))
 
-pub returns-in-Refused : goal.returns-in-Refused
+pub returns-in-Err : goal.returns-in-Err
 unfolding result_of stored_value
-returns-in-Refused c =
-    (rw c.in-Refused.is (c.number.ensures ∙ refused_result c.in-Refused.r), rw c.in-Refused.is)
+returns-in-Err c =
+    (rw c.in-Err.is (c.number.ensures ∙ refused_result c.in-Err.r), rw c.in-Err.is)

@@ -4,11 +4,11 @@ use Rattle.c_results.specs.Results.{result_of, stored_value}
 use Rattle.c_results.proofs.RefusalResults.{refused_result}
 use Rattle.c_results.proofs.give_count.Goals as goal
 
-pub returns-in-Count : goal.returns-in-Count
+pub returns-in-Ok : goal.returns-in-Ok
 unfolding result_of stored_value
-returns-in-Count c = (rw c.in-Count.is, rw c.in-Count.is)
+returns-in-Ok c = (rw c.in-Ok.is, rw c.in-Ok.is)
 
-pub returns-in-Refused : goal.returns-in-Refused
+pub returns-in-Err : goal.returns-in-Err
 unfolding result_of stored_value
-returns-in-Refused c =
-    (rw c.in-Refused.is (c.number.ensures ∙ refused_result c.in-Refused.r), rw c.in-Refused.is)
+returns-in-Err c =
+    (rw c.in-Err.is (c.number.ensures ∙ refused_result c.in-Err.refused), rw c.in-Err.is)

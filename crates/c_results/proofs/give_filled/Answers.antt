@@ -4,11 +4,11 @@ use Rattle.c_results.specs.Results.{result_of, stored_value, stored_second, stor
 use Rattle.c_results.proofs.RefusalResults.{refused_result}
 use Rattle.c_results.proofs.give_filled.Goals as goal
 
-pub returns-in-Finished : goal.returns-in-Finished
+pub returns-in-Ok : goal.returns-in-Ok
 unfolding result_of stored_value stored_second stored_third
-returns-in-Finished c = let e = c.in-Finished.is in (rw e, rw e, rw e c.star_number.ensures, rw e)
+returns-in-Ok c = let e = c.in-Ok.is in (rw e, rw e, rw e c.bit.ensures, rw e)
 
-pub returns-in-Refused : goal.returns-in-Refused
+pub returns-in-Err : goal.returns-in-Err
 unfolding result_of stored_value stored_second stored_third
-returns-in-Refused c =
-    (rw c.in-Refused.is (c.number.ensures ∙ refused_result c.in-Refused.r), rw c.in-Refused.is, rw c.in-Refused.is, rw c.in-Refused.is)
+returns-in-Err c =
+    (rw c.in-Err.is (c.number.ensures ∙ refused_result c.in-Err.r), rw c.in-Err.is, rw c.in-Err.is, rw c.in-Err.is)

@@ -6,13 +6,13 @@ use Rattle.c_results.proofs.RefusalResults.{refused_result}
 use Rattle.c_results.proofs.give_part.Goals as goal
 
 pub overflow_sub-length : goal.overflow_sub-length
-overflow_sub-length c = let h = rw c.in-Part.is at c.requires in omega (arith, h)
+overflow_sub-length c = let h = rw c.in-Ok.is at c.requires in omega (arith, h)
 
-pub returns-in-Part : goal.returns-in-Part
+pub returns-in-Ok : goal.returns-in-Ok
 unfolding result_of stored_value stored_length
-returns-in-Part c = let e = c.in-Part.is in (rw e, rw e, rw e)
+returns-in-Ok c = let e = c.in-Ok.is in (rw e, rw e, rw e)
 
-pub returns-in-Refused : goal.returns-in-Refused
+pub returns-in-Err : goal.returns-in-Err
 unfolding result_of stored_value stored_length
-returns-in-Refused c =
-    (rw c.in-Refused.is (c.number.ensures ∙ refused_result c.in-Refused.r), rw c.in-Refused.is, rw c.in-Refused.is)
+returns-in-Err c =
+    (rw c.in-Err.is (c.number.ensures ∙ refused_result c.in-Err.r), rw c.in-Err.is, rw c.in-Err.is)

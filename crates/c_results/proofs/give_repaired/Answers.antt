@@ -4,11 +4,11 @@ use Rattle.c_results.specs.Results.{result_of, stored_value, stored_second}
 use Rattle.c_results.proofs.RefusalResults.{refused_result}
 use Rattle.c_results.proofs.give_repaired.Goals as goal
 
-pub returns-in-Counts : goal.returns-in-Counts
+pub returns-in-Ok : goal.returns-in-Ok
 unfolding result_of stored_value stored_second
-returns-in-Counts c = let e = c.in-Counts.is in (rw e, rw e, rw e)
+returns-in-Ok c = let e = c.in-Ok.is in (rw e, rw e, rw e)
 
-pub returns-in-Refused : goal.returns-in-Refused
+pub returns-in-Err : goal.returns-in-Err
 unfolding result_of stored_value stored_second
-returns-in-Refused c =
-    (rw c.in-Refused.is (c.number.ensures ∙ refused_result c.in-Refused.r), rw c.in-Refused.is, rw c.in-Refused.is)
+returns-in-Err c =
+    (rw c.in-Err.is (c.number.ensures ∙ refused_result c.in-Err.r), rw c.in-Err.is, rw c.in-Err.is)

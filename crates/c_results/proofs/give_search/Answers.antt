@@ -4,15 +4,11 @@ use Rattle.c_results.specs.Results.{result_of, stored_value, stored_second}
 use Rattle.c_results.proofs.RefusalResults.{refused_result}
 use Rattle.c_results.proofs.give_search.Goals as goal
 
-pub returns-in-Found : goal.returns-in-Found
+pub returns-in-Ok : goal.returns-in-Ok
 unfolding result_of stored_value stored_second
-returns-in-Found c = let e = c.in-Found.is in (rw e, rw e, rw e)
+returns-in-Ok c = let e = c.in-Ok.is in (rw e, rw e c.bit.ensures, rw e)
 
-pub returns-in-Missing : goal.returns-in-Missing
+pub returns-in-Err : goal.returns-in-Err
 unfolding result_of stored_value stored_second
-returns-in-Missing c = let e = c.in-Missing.is in (rw e, rw e, rw e)
-
-pub returns-in-Refused : goal.returns-in-Refused
-unfolding result_of stored_value stored_second
-returns-in-Refused c =
-    (rw c.in-Refused.is (c.number.ensures ∙ refused_result c.in-Refused.r), rw c.in-Refused.is, rw c.in-Refused.is)
+returns-in-Err c =
+    (rw c.in-Err.is (c.number.ensures ∙ refused_result c.in-Err.r), rw c.in-Err.is, rw c.in-Err.is)

@@ -5,17 +5,20 @@ use Rattle.descriptions.proofs.judge_after_link.Goals as goal
 
 pub overflow_add-result : goal.overflow_add-result
 overflow_add-result c =
-    let p = c.in-Ignored.ensures in
+    let e = c.in_ok-rest.was in
+    let p = rw e at c.ignored_size.ensures in
     omega (arith, p.1)
 
-pub returns-in-Ignored : goal.returns-in-Ignored
+pub returns-in_err-rest : goal.returns-in_err-rest
 unfolding linked
-returns-in-Ignored c =
-    let p = c.in-Ignored.ensures in
-    rw (p.0, p.1)
+returns-in_err-rest c =
+    let e = c.in_err-rest.was in
+    let p = rw e at c.ignored_size.ensures in
+    rw (c.from_residual.ensures, p)
 
-pub returns-in-Other : goal.returns-in-Other
+pub returns : goal.returns
 unfolding linked
-returns-in-Other c =
-    let p = c.in-Other.ensures in
-    rw p
+returns c =
+    let e = c.in_ok-rest.was in
+    let p = rw e at c.ignored_size.ensures in
+    rw (p.0, p.1)

@@ -14,40 +14,40 @@ returns-in_default c =
 
 pub overflow_add-size : goal.overflow_add-size
 overflow_add-size c =
-    let p = c.in-Field.ensures in
+    let p = c.in-Some.ensures in
     omega (arith, sized_room _ _ _ _ c.loop-read.invariant.sized _ _ p.0 p.2)
 
 pub overflow_add-size-in-loop-read : goal.overflow_add-size-in-loop-read
 overflow_add-size-in-loop-read c =
-    let p = c.in-Field.ensures in
+    let p = c.in-Some.ensures in
     omega (arith, sized_room _ _ _ _ c.loop-read.invariant.sized _ _ p.0 p.2)
 
 pub returns-in-Malformed : goal.returns-in-Malformed
 returns-in-Malformed c =
-    let p = c.in-Field.ensures in
+    let p = c.in-Some.ensures in
     let q = rw c.in-Malformed.is at p.1 in
     judging_malformed _ _ _ c.loop-read.invariant 0 _ p.0 q
 
 pub judge_after_link-requires : goal.judge_after_link-requires
 judge_after_link-requires c =
-    let p = c.in-Field.ensures in
+    let p = c.in-Some.ensures in
     omega (arith, sized_room _ _ _ _ c.loop-read.invariant.sized _ _ p.0 p.2)
 
 pub returns-in-Link : goal.returns-in-Link
 returns-in-Link c =
     let told = c.next_field.ensures in
-    let p = rw c.in-Field.is at told in
+    let p = rw c.in-Some.is at told in
     let q = rw c.in-Link.is at p.1 in
     let inv = c.loop-read.invariant in
     rw c.judge_after_link.ensures (judging_link _ _ _ inv _ _ p.0 _ p.2 q)
 
 pub loop-read-smaller : goal.loop-read-smaller
 loop-read-smaller c =
-    let p = c.in-Field.ensures in
+    let p = c.in-Some.ensures in
     omega arith
 
 pub loop-read-preserved : goal.loop-read-preserved
 loop-read-preserved c =
-    let p = c.in-Field.ensures in
+    let p = c.in-Some.ensures in
     let inv = c.loop-read.invariant in
-    judging_on _ _ _ inv _ _ p.0 p.2 (judge_on _ _ _ c.in-Field.read p.1 c.in_default-read.not-Malformed (λ name e. c.in_default-read.not-Link name e))
+    judging_on _ _ _ inv _ _ p.0 p.2 (judge_on _ _ _ c.in-Some.field-0.read p.1 c.in_default-read.not-Malformed (λ name e. c.in_default-read.not-Link name e))

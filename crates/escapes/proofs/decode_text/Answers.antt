@@ -1,20 +1,9 @@
 -- `escapes::decode_text` meets its contract: the `k` bytes that the text stands for up to the place `i` are in the buffer.
-use native.Mathlib.Omega.{arith}
 use Rattle.escapes.proofs.TextSteps.{decoding_none, decoding_on, decoding_done, decoding_fault}
 use Rattle.escapes.proofs.decode_text.Goals as goal
 
 pub loop-b-init : goal.loop-b-init
 loop-b-init c = decoding_none _ _ _
-
-pub overflow_add-k : goal.overflow_add-k
-overflow_add-k c =
-    let p = c.in-Byte.ensures in
-    omega arith
-
-pub loop-b-smaller : goal.loop-b-smaller
-loop-b-smaller c =
-    let p = c.in-Byte.ensures in
-    omega arith
 
 pub loop-b-preserved : goal.loop-b-preserved
 loop-b-preserved c =

@@ -2,13 +2,9 @@
 use Rattle.spec.specs.Fields.{names_of}
 use Rattle.field_bounds.proofs.after_names.Goals as goal
 
-pub returns-in-After : goal.returns-in-After
+pub returns : goal.returns
 unfolding names_of
-returns-in-After c =
-    let p = c.in-After.ensures in
-    (p.0, p.1, p.2, p.3, p.4)
-
-pub returns-in-Missing : goal.returns-in-Missing
-returns-in-Missing c =
-    let p = c.in-Missing.ensures in
-    p.0
+returns c =
+    let e = c.in_ok-fields.was in
+    let p = rw e at c.find_colon-colon.ensures in
+    (p.1.0, p.1.1, p.0, p.1.2, p.1.3)

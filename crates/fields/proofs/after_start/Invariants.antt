@@ -1,11 +1,6 @@
--- `fields::after_start` meets its contract: the first `k` bytes of the start were met up to the place `i`.
-use Prim.Native.Nat.{◌-◌}
-use lib.ListN.{length}
+-- `fields::after_start` meets its contract: the bytes of the start before the loop's were met up to the place `i`.
 use Rattle.fields.proofs.Starting.{Started}
 use Rattle.fields.proofs.after_start.Given as goal
 
-abbrev pub invariant-loop-k : goal.invariant-loop-k
-invariant-loop-k l = Started l.s l.at l.start l.i l.k
-
-abbrev pub decreases-loop-k : goal.decreases-loop-k
-decreases-loop-k l = length l.start - l.k
+abbrev pub invariant-loop-wanted : goal.invariant-loop-wanted
+invariant-loop-wanted l = Started l.s l.at l.start l.i l.wanted-index

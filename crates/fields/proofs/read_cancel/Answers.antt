@@ -4,13 +4,13 @@ use Rattle.field_bounds.proofs.FieldBytes.{passed_over}
 use Rattle.fields.proofs.Contents.{cancel_more}
 use Rattle.fields.proofs.read_cancel.Goals as goal
 
-pub returns-in-Byte : goal.returns-in-Byte
-returns-in-Byte c =
-    let p = c.in-Byte.ensures in
+pub returns-in-Some : goal.returns-in-Some
+returns-in-Some c =
+    let p = c.in-Some.ensures in
     (rw p.0 (cancel_more _ _ _ _), λ start q. passed_over _ _ _ _ _ _ q p.3)
 
-pub returns-in-End : goal.returns-in-End
+pub returns-in-None : goal.returns-in-None
 unfolding content_reading
-returns-in-End c =
-    let p = c.in-End.ensures in
+returns-in-None c =
+    let p = c.in-None.ensures in
     (rw p, λ start q. q)

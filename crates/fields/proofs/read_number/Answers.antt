@@ -1,27 +1,18 @@
 -- `fields::read_number` meets its contract: the digits decide.
-use native.Mathlib.Omega.{arith}
 use Rattle.field_bounds.proofs.FieldBytes.{passed_over}
 use Rattle.spec.specs.Fields.{content_reading}
 use Rattle.fields.proofs.read_number.Goals as goal
 
-pub overflow_add-result : goal.overflow_add-result
-overflow_add-result c =
-    let p = c.in-Value.ensures in
-    omega arith
-
-pub overflow_add-result-in-Bad : goal.overflow_add-result-in-Bad
-overflow_add-result-in-Bad c =
-    let p = c.in-Bad.ensures in
-    omega arith
-
-pub returns-in-Value : goal.returns-in-Value
+pub returns-in-Some : goal.returns-in-Some
 unfolding content_reading
-returns-in-Value c =
-    let p = c.in-Value.ensures in
-    (rw (p.0, p.1), λ start q. passed_over _ _ _ _ _ _ q p.2)
+returns-in-Some c =
+    let e = c.in-Some.is in
+    let p = rw e at c.read_digits-digits.ensures in
+    (rw (p.0.0, p.0.1), λ start q. passed_over _ _ _ _ _ _ q p.1)
 
-pub returns-in-Bad : goal.returns-in-Bad
+pub returns-in-None : goal.returns-in-None
 unfolding content_reading
-returns-in-Bad c =
-    let p = c.in-Bad.ensures in
+returns-in-None c =
+    let e = c.in-None.is in
+    let p = rw e at c.read_digits-digits.ensures in
     (rw p.0, λ start q. passed_over _ _ _ _ _ _ q p.1)

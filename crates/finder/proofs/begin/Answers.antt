@@ -10,4 +10,4 @@ use Rattle.finder.proofs.begin.Goals as goal
 pub returns : goal.returns
 returns c =
     let a = c.args in
-    ap (λ (l : List ℕ). begun (length a.name.now) l a.ended) (Calls.named a.name.now _ c.requires c.put_bytes.ensures)
+    ap (λ (l : List ℕ). begun (length a.name.now) l a.ended) (Calls.named a.name.now _ c.requires c.copy_from_slice.ensures.after)

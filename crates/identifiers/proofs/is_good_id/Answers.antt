@@ -1,10 +1,14 @@
 -- `identifiers::is_good_id` meets its contract.
 use mathlib.Core.Path.{◌∙◌, sym}
+use native.Mathlib.Omega.{arith}
 use Rattle.identifiers.proofs.AskedNames.{id_other, id_two}
 use Rattle.identifiers.proofs.is_good_id.Goals as goal
 
-pub returns-then-id-ne2 : goal.returns-then-id-ne2
-returns-then-id-ne2 c = sym (id_other _ c.if-id-ne2.true)
+pub returns-in-len2 : goal.returns-in-len2
+returns-in-len2 c = c.is_id.ensures ∙ sym (id_two _ (omega arith))
 
-pub returns : goal.returns
-returns c = c.is_id.ensures ∙ sym (id_two _ c.if-id-ne2.false)
+pub returns-in_default : goal.returns-in_default
+returns-in_default c = sym (id_other _ (λ e. omega (arith, e)))
+
+pub returns-in_default-2 : goal.returns-in_default-2
+returns-in_default-2 c = sym (id_other _ (λ e. omega (arith, e)))

@@ -1,27 +1,21 @@
--- `identifiers::is_good_name` meets its contract: the name is good if its bytes from `i` on are.
+-- `identifiers::is_good_name` meets its contract.
 use mathlib.Core.Path.{◌∙◌, sym}
 use native.Mathlib.Omega.{arith}
-use Rattle.identifiers.proofs.AskedNames.{name_empty, name_long, name-bytes, bytes-end, bytes-bad, bytes_on}
+use borrow.Author.Tests.{tests}
+use Rattle.std.proofs.Common.{rules}
+use Rattle.std.proofs.lemmas.Iterator.{YieldsList-from_slice}
+use Rattle.std.proofs.lemmas.Iterator.Search.{all_from_yields_List}
+use Rattle.spec.specs.Refusals.{name_byte}
+use Rattle.identifiers.proofs.AskedNames.{name_empty, name_long, name_within}
 use Rattle.identifiers.proofs.is_good_name.Goals as goal
 
-pub returns-then-n-lt1 : goal.returns-then-n-lt1
-returns-then-n-lt1 c = sym (name_empty _ c.if-n-lt1.true)
+pub returns-in-1-to-64 : goal.returns-in-1-to-64
+returns-in-1-to-64 c =
+    all_from_yields_List name_byte _ _ c.all.result c.all.ensures.ran (YieldsList-from_slice c.args.name.now cc) (λ x b q k. search (rules, tests))
+    ∙ sym (name_within _ (omega arith) (omega arith))
 
-pub returns-then-n-gt-MOST_NAME_BYTES : goal.returns-then-n-gt-MOST_NAME_BYTES
-returns-then-n-gt-MOST_NAME_BYTES c = sym (name_long _ c.if-n-gt-MOST_NAME_BYTES.true)
+pub returns-in_default : goal.returns-in_default
+returns-in_default c = sym (name_empty _ (omega arith))
 
-pub loop-i-init : goal.loop-i-init
-loop-i-init c = (omega arith, name-bytes _ (omega arith) (omega arith))
-
-pub returns-then-not-is_name_byte : goal.returns-then-not-is_name_byte
-returns-then-not-is_name_byte c =
-    let h = sym c.is_name_byte.ensures ∙ c.if-not-is_name_byte.true in
-    sym (c.loop-i.invariant.1 ∙ bytes-bad _ _ (omega arith) h)
-
-pub loop-i-preserved : goal.loop-i-preserved
-loop-i-preserved c =
-    let h = sym c.is_name_byte.ensures ∙ c.if-not-is_name_byte.false in
-    (omega arith, c.loop-i.invariant.1 ∙ bytes_on _ _ (omega arith) h)
-
-pub returns : goal.returns
-returns c = sym (c.loop-i.invariant.1 ∙ bytes-end _ _ (omega arith))
+pub returns-in_default-2 : goal.returns-in_default-2
+returns-in_default-2 c = sym (name_long _ (omega arith))

@@ -2,7 +2,6 @@
 use Prim.Native.Nat.{◌≤◌, ◌-◌}
 use mathlib.Core.Path.{◌≡◌}
 use lib.ListN.{length}
-use Rattle.laws.proofs.TextSteps as Laws
 use Rattle.spec.specs.Lines.{text_at, line_text, first_name}
 use Rattle.spec.specs.Lists.{same}
 use Rattle.laws.proofs.TextSteps.{rest}

@@ -3,15 +3,11 @@ use native.Mathlib.Omega.{arith}
 use Rattle.link_list.proofs.Joining.{names-good, listed-starts, listed_reasons}
 use Rattle.link_list.proofs.find_reasons.Goals as goal
 
-pub find_targets-requires : goal.find_targets-requires
-find_targets-requires c =
-    let pre = c.requires in
-    record { db_len_bound = pre.db_len_bound; short_names = names-good _ _ pre.names_value; tos_len = omega (arith, pre.names_len, pre.tos_len) }
+pub find_targets-requires-clause-short_names : goal.find_targets-requires-clause-short_names
+find_targets-requires-clause-short_names c = names-good _ _ c.requires.names_value
 
-pub judge_links-requires : goal.judge_links-requires
-judge_links-requires c =
-    let pre = c.requires in
-    record { starts = listed-starts _ _ pre.db_len_bound pre.ats_value; tos_len = omega (arith, pre.tos_len); nexts_len = omega (arith, pre.names_len); reasons_len = omega (arith, pre.reasons_len) }
+pub judge_links-requires-clause-starts : goal.judge_links-requires-clause-starts
+judge_links-requires-clause-starts c = listed-starts _ _ c.requires.db_len_bound c.requires.ats_value
 
 pub returns : goal.returns
 returns c =
@@ -19,9 +15,6 @@ returns c =
     let pre = c.requires in
     let found = c.find_targets.ensures in
     let judged = c.judge_links.ensures in
-    let tos = c.find_targets.new.tos in (
-      listed_reasons a.db.now a.ats.now a.names.now tos _ pre.db_len_bound pre.ats_value pre.names_value pre.names_len
-          (omega (arith, pre.tos_len)) found judged.0,
-      found,
-      judged.1,
-    )
+    let reasons = listed_reasons a.db.now a.ats.now a.names.now c.find_targets.new.tos _ pre.db_len_bound pre.ats_value
+    pre.names_value pre.names_len (omega (arith, pre.tos_len)) found judged.0 in
+    (reasons, found, judged.1)

@@ -8,37 +8,17 @@ pub returns-then-is_ignored : goal.returns-then-is_ignored
 returns-then-is_ignored c = ignored-line _ (seen _ _ _ _ c.is_ignored.ensures c.if-is_ignored.true)
 
 pub returns-in_default : goal.returns-in_default
-returns-in_default c =
-    let p = c.in_default.ensures in
-    dropped_line _ (seen _ _ _ _ c.is_ignored.ensures c.if-is_ignored.false) p
-
-pub slice_bounds-first_link-count : goal.slice_bounds-first_link-count
-slice_bounds-first_link-count c =
-    let p = c.in-At.ensures in
-    omega arith
-
-pub slice_bounds-first_link-start : goal.slice_bounds-first_link-start
-slice_bounds-first_link-start c =
-    let p = c.in-At.ensures in
-    omega arith
+returns-in_default c = dropped_line _ (seen _ _ _ _ c.is_ignored.ensures c.if-is_ignored.false) c.in_default.ensures
 
 pub overflow_add-result : goal.overflow_add-result
 overflow_add-result c =
-    let told = c.after_names.ensures in
-    let p = rw c.in-At.is at told in
-    let q = c.in-At-first_link.ensures in
-    omega (arith, part_inside _ _ _ _ p _ q.1)
+    let p = rw c.in-Some.is at c.after_names.ensures in
+    omega (arith, part_inside _ _ _ _ p _ c.in-Some-first_link.ensures.1)
 
-pub returns-in-At-first_link : goal.returns-in-At-first_link
-returns-in-At-first_link c =
-    let p = c.in-At.ensures in
-    let q = c.in-At-first_link.ensures in
-    let e = seen _ _ _ _ c.is_ignored.ensures c.if-is_ignored.false in
-    part_linked _ _ _ _ p e _ q
+pub returns-in-Some-first_link : goal.returns-in-Some-first_link
+returns-in-Some-first_link c =
+    part_linked _ _ _ _ c.in-Some.ensures (seen _ _ _ _ c.is_ignored.ensures c.if-is_ignored.false) _ c.in-Some-first_link.ensures
 
-pub returns-in-Nothing : goal.returns-in-Nothing
-returns-in-Nothing c =
-    let p = c.in-At.ensures in
-    let q = c.in-Nothing.ensures in
-    let e = seen _ _ _ _ c.is_ignored.ensures c.if-is_ignored.false in
-    part_none _ _ _ _ p e q
+pub returns-in-None : goal.returns-in-None
+returns-in-None c =
+    part_none _ _ _ _ c.in-Some.ensures (seen _ _ _ _ c.is_ignored.ensures c.if-is_ignored.false) c.in-None.ensures

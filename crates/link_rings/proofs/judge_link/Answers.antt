@@ -16,8 +16,8 @@ returns-then-comes_back c =
     reason-told _ _ _ _ pre.starts pre.tos_len pre.nexts_len pre.nexts pre.k_in_bounds c.if-tos-k-eq-NOWHERE.false true
     (sym c.if-comes_back.true ∙ c.comes_back.ensures)
 
-pub returns : goal.returns
-returns c =
+pub returns-else-comes_back : goal.returns-else-comes_back
+returns-else-comes_back c =
     let pre = c.requires in
     reason-told _ _ _ _ pre.starts pre.tos_len pre.nexts_len pre.nexts pre.k_in_bounds c.if-tos-k-eq-NOWHERE.false false
     (sym c.if-comes_back.false ∙ c.comes_back.ensures)

@@ -1,5 +1,4 @@
 -- `link_targets::find_alone` meets its contract: a table of one name finds it.
-use mathlib.Core.Path.{refl}
 use native.Mathlib.Omega.{arith}
 use lib.ListN.{length, replicate}
 use Prim.Native.Nat.{◌≤◌}
@@ -8,17 +7,14 @@ use Rattle.link_targets.proofs.Copying.{read_back, copy_length}
 use Rattle.link_targets.proofs.Found.{single_table, single_unsettled, single_found}
 use Rattle.link_targets.proofs.find_alone.Goals as goal
 
-pub settle_lines-requires : goal.settle_lines-requires
-settle_lines-requires c =
+pub invariant_of-wanted-clause-table : goal.invariant_of-wanted-clause-table
+invariant_of-wanted-clause-table c =
     let a = c.args in
-    let s = c.copy_name-n.ensures in record {
-      db_len_bound = c.requires.db_len_bound;
-      table = single_table _ _ (copy_length (name_at a.db.now a.at) (replicate 64 0) _ s.1)
-          (omega (arith, s.0, c.requires.at_len_bound));
-      count_in_bounds = omega arith;
-      firsts_len = refl;
-      unsettled = single_unsettled;
-    }
+    let s = c.copy_name-n.ensures in
+    single_table _ _ (copy_length (name_at a.db.now a.at) (replicate 64 0) _ s.1) (omega (arith, s.0, c.requires.at_len_bound))
+
+pub settle_lines-requires-clause-unsettled : goal.settle_lines-requires-clause-unsettled
+settle_lines-requires-clause-unsettled c = single_unsettled
 
 pub returns : goal.returns
 returns c =

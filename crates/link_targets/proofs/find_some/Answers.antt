@@ -2,11 +2,16 @@
 use mathlib.Core.Path.{refl}
 use native.Mathlib.Omega.{arith}
 use lib.ListN.{replicate}
-use Rattle.link_targets.proofs.Found.{first_table, first_unsettled}
+use Rattle.link_targets.proofs.Found.{at-most_zeros, first_table, copied_table, first_unsettled}
 use Rattle.link_targets.proofs.find_some.Goals as goal
 
-pub find_with-requires : goal.find_with-requires
-find_with-requires c =
-    let pre = c.requires in
-    let table = first_table 512 (omega arith) (omega arith) (replicate 32768 0) (replicate 512 0) (replicate 512 0) refl refl refl in
-    record { db_len_bound = pre.db_len_bound; short_names = pre.short_names; from_in_bounds = pre.from_in_bounds; table = table; firsts_len = refl; unsettled = first_unsettled 512; tos_len = pre.tos_len; targets = pre.targets }
+pub copy_names-requires-clause-at_most : goal.copy_names-requires-clause-at_most
+copy_names-requires-clause-at_most c = at-most_zeros 64 512
+
+pub list_names-count-requires : goal.list_names-count-requires
+list_names-count-requires c =
+    let fresh = first_table 512 (omega arith) (omega arith) (replicate 32768 0) (replicate 512 0) (replicate 512 0) refl refl refl in
+    copied_table _ _ _ _ _ fresh c.copy_names.auto.bytes c.copy_names.auto.lens c.copy_names.ensures
+
+pub settle_lines-requires-clause-unsettled : goal.settle_lines-requires-clause-unsettled
+settle_lines-requires-clause-unsettled c = first_unsettled 512

@@ -6,14 +6,9 @@ pub returns-then-is_ignored : goal.returns-then-is_ignored
 returns-then-is_ignored c = settle_none _ _ _ (numbered-ignored _ _ (in_line_ignored _ _ _ c.is_ignored.ensures _ c.if-is_ignored.true))
 
 pub returns-in_default : goal.returns-in_default
-returns-in_default c =
-    let p = c.in_default.ensures in
-    settle_none _ _ _ (numbered_dropped _ _ p)
+returns-in_default c = settle_none _ _ _ (numbered_dropped _ _ c.in_default.ensures)
 
 pub returns : goal.returns
 returns c =
-    let p = c.in-At.ensures in
     settle_first _ _ _ _ c.settle_names.ensures _
-    (numbered-left _ _
-    (in_line_ignored _ _ _ c.is_ignored.ensures _
-    c.if-is_ignored.false) p.0)
+    (numbered-left _ _ (in_line_ignored _ _ _ c.is_ignored.ensures _ c.if-is_ignored.false) c.in-Some.ensures.0)

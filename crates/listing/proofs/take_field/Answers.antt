@@ -35,4 +35,6 @@ returns-in-String c s at q =
     (rw p.3 e.1)
 
 pub returns-in_default : goal.returns-in_default
-returns-in_default c s at q = took_other s at c.args.read c.args.seen.now q c.in_default.not-Cancel c.in_default.not-Flag c.in_default.not-Number c.in_default.not-String
+returns-in_default c s at q =
+    let d = c.in_default in
+    took_other s at c.args.read c.args.seen.now q d.not-Cancel d.not-Flag d.not-Number d.not-String

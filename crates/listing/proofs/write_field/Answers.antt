@@ -1,5 +1,4 @@
 -- `listing::write_field` meets its contract: lost, a record, or a text with its colon.
-use Prim.Native.Nat.{◌≤◌}
 use native.Mathlib.Omega.{arith}
 use Rattle.field_bounds.specs.Answers.{field_at}
 use Rattle.field_bounds.proofs.LineBounds.{field_bound}
@@ -14,21 +13,21 @@ returns-in_default c =
     (t.ensures a.s.now a.at c.requires.1)
 
 pub overflow_add-to : goal.overflow_add-to
-overflow_add-to c = omega (arith, (let copied-short' : c.copy_field-n.result ≤ 1048576 = omega (arith, c.copy_field-n.ensures.0, field_bound c.args.s.now c.args.at, c.requires.0) in copied-short'))
+overflow_add-to c = omega (arith, c.copy_field-n.ensures.0, field_bound c.args.s.now c.args.at, c.requires.0)
 
 pub overflow_add-result-in-Texts : goal.overflow_add-result-in-Texts
-overflow_add-result-in-Texts c = omega (arith, (let copied-short' : c.copy_field-n.result ≤ 1048576 = omega (arith, c.copy_field-n.ensures.0, field_bound c.args.s.now c.args.at, c.requires.0) in copied-short'))
+overflow_add-result-in-Texts c = omega (arith, c.copy_field-n.ensures.0, field_bound c.args.s.now c.args.at, c.requires.0)
 
 pub overflow_add-result-in-Texts-2 : goal.overflow_add-result-in-Texts-2
-overflow_add-result-in-Texts-2 c = omega (arith, (let copied-short' : c.copy_field-n.result ≤ 1048576 = omega (arith, c.copy_field-n.ensures.0, field_bound c.args.s.now c.args.at, c.requires.0) in copied-short'))
+overflow_add-result-in-Texts-2 c = omega (arith, c.copy_field-n.ensures.0, field_bound c.args.s.now c.args.at, c.requires.0)
 
 pub returns-in-Records : goal.returns-in-Records
 returns-in-Records c =
     let a = c.args in
     let t = c.take_field in
     let took = t.ensures a.s.now a.at c.requires.1 in
-    take_record a.from (field_at a.s.now a.at) a.seen.now _ a.out.now a.to a.form t.result _ _ _ _ _
-    c.in-Records.is c.in-Yes.is took c.put_record.ensures
+    take_record a.from (field_at a.s.now a.at) a.seen.now _ a.out.now a.to a.form t.result _ _
+    c.in-Records.is c.in-Some.is took c.put_record.ensures
 
 pub returns-in-Texts : goal.returns-in-Texts
 returns-in-Texts c =
@@ -37,5 +36,5 @@ returns-in-Texts c =
     let a = c.args in
     let t = c.take_field in
     let took = t.ensures a.s.now a.at c.requires.1 in
-    take-text a.from (field_at a.s.now a.at) a.seen.now _ a.out.now a.to a.form t.result _ _ _ _ _ _ _
-    texts c.in-Yes.is took copied.0 copied.1 c.put_byte.ensures
+    take-text a.from (field_at a.s.now a.at) a.seen.now _ a.out.now a.to a.form t.result _ _ _ _
+    texts c.in-Some.is took copied.0 copied.1 c.put_byte.ensures

@@ -38,14 +38,14 @@ pub write_field-end-requires : goal.write_field-end-requires
 write_field-end-requires c =
     let a = c.args in
     let pre = c.requires in
-    let q = c.in-Field.ensures in
+    let q = c.in-Some.ensures in
     let i = c.loop-read.invariant in
     let b = so_far a.s.now a.from a.form a.seen.now a.out.now a.to pre.0 pre.1 _ _ _ _ i in
     (pre.0, q.1, omega (arith, pre.2))
 
 pub loop-read-smaller : goal.loop-read-smaller
 loop-read-smaller c =
-    let q = c.in-Field.ensures in
+    let q = c.in-Some.ensures in
     omega arith
 
 pub loop-read-preserved : goal.loop-read-preserved
@@ -54,7 +54,7 @@ loop-read-preserved c =
     let l = c.loop-read in
     let i = l.invariant in
     let here = one_field a.from (field_at a.s.now l.at) in
-    let q = c.in-Field.ensures in
+    let q = c.in-Some.ensures in
     record {
       done = i.done ++ here;
       all = line_more a.from a.s.now l.at _ (fields a.from a.s.now 0) i.done _ i.all q.0;

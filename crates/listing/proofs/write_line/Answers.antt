@@ -15,15 +15,15 @@ returns-in_default c =
 
 pub slice_bounds-write_fields-count : goal.slice_bounds-write_fields-count
 slice_bounds-write_fields-count c =
-    let p = c.in-At.ensures in
+    let p = c.in-Some.ensures in
     omega arith
 
 pub slice_bounds-write_fields-start : goal.slice_bounds-write_fields-start
 slice_bounds-write_fields-start c =
-    let p = c.in-At.ensures in
+    let p = c.in-Some.ensures in
     omega arith
 
 pub returns : goal.returns
 returns c =
-    let p = c.in-At.ensures in
+    let p = c.in-Some.ensures in
     rw (← part_fields _ _ _ _ p) c.write_fields.ensures

@@ -3,7 +3,7 @@ use mathlib.Core.Path.{◌≡◌, refl, ◌∙◌}
 use mathlib.Core.List.{[], ◌++◌, append-nil}
 use native.Mathlib.Omega.{arith}
 use borrow.Author.Rules.{rules}
-use lib.ListN.{take, replicate}
+use lib.ListN.{length, take, replicate}
 use Rattle.spec.specs.Files.{files, contents}
 use Rattle.spec.specs.Chain.{joined_fields}
 use Rattle.chain.proofs.WalkPlaces.{length_mapped}
@@ -15,8 +15,6 @@ pub loop-i-init : goal.loop-i-init
 loop-i-init c =
     let a = c.args in
     record {
-      array = search (rules, length_mapped);
-      count = search rules;
       done = [];
       all = from_first _ _ _;
       passed = pass_none a.form (replicate 8836 0) a.out.now a.to;
@@ -37,12 +35,10 @@ loop-i-preserved c =
     let l = c.loop-i in
     let g = l.invariant in
     let w = c.write_line-end in
-    let f = c.file in
+    let array : length a.c.lines ≡ 32 = search (rules, length_mapped) in
     record {
-      array = g.array;
-      count = g.count;
       done = g.done ++ _;
-      all = chain_more _ a.c.lines a.c.count l.i _ _ _ g.done (omega arith) (omega arith) f.ensures g.all;
+      all = chain_more _ a.c.lines a.c.count l.i _ _ _ g.done (omega arith) (omega (arith, array)) c.file.ensures g.all;
       passed = pass_then a.form g.done _ (replicate 8836 0) a.out.now a.to _ _ _ _ _ _ g.passed w.ensures.0;
       bound = omega (arith, w.ensures.1);
       buffer = c.out-1.given ∙ g.buffer;

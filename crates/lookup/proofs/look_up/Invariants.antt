@@ -1,18 +1,17 @@
--- `lookup::look_up` meets its contract: what is looked up in the chain is what is looked up from the i-th line on.
-use Prim.Native.Nat.{◌-◌}
+-- `lookup::look_up` meets its contract: what is looked up in the chain is what is looked up from the index on.
 use mathlib.Core.Path.{◌≡◌}
 use mathlib.Core.List.{[], ◌∷◌}
-use lib.ListN.{length, take}
+use lib.ListN.{length}
 use Rattle.spec.specs.Files.{files, contents}
 use Rattle.spec.specs.Chain.{joined_fields}
 use Rattle.spec.specs.Lookup.{lookup}
+use Rattle.chain.specs.Answers.{lines_of}
 use Rattle.chain.proofs.JoinedFields.{fields_from}
 use Rattle.lookup.proofs.look_up.Given as goal
 
-abbrev pub invariant-loop-i : goal.invariant-loop-i
-invariant-loop-i l =
+abbrev pub invariant-loop-p : goal.invariant-loop-p
+invariant-loop-p l =
     let fs = contents (files l.db l.ends) in
-    (length l.lines ≡ 32) × (lookup (l.a ∷ l.b ∷ []) l.number (joined_fields fs 0 (take l.n l.lines)) ≡ lookup (l.a ∷ l.b ∷ []) l.number (fields_from fs l.lines l.n l.i))
-
-abbrev pub decreases-loop-i : goal.decreases-loop-i
-decreases-loop-i l = l.n - l.i
+    let id = l.a ∷ l.b ∷ [] in
+    (length l.p-items ≡ l.n)
+    × (lookup id l.number (joined_fields fs 0 (lines_of l.fn.c)) ≡ lookup id l.number (fields_from fs l.p-items l.n l.p-index))

@@ -15,12 +15,12 @@ returns-in_default c =
 
 pub loop-at-smaller-then-not-has_name : goal.loop-at-smaller-then-not-has_name
 loop-at-smaller-then-not-has_name c =
-    let p = c.in-Field.ensures in
+    let p = c.in-Some.ensures in
     omega arith
 
 pub loop-at-preserved-then-not-has_name : goal.loop-at-preserved-then-not-has_name
 loop-at-preserved-then-not-has_name c =
-    let p = c.in-Field.ensures in
+    let p = c.in-Some.ensures in
     let h = sym c.has_name.ensures ∙ c.if-not-has_name.true in
     c.loop-at.invariant ∙ rw p.0 (scan-other _ _ _ _ h)
 
@@ -31,16 +31,16 @@ returns-in_default-next_field c =
 
 pub returns-in-Cancels : goal.returns-in-Cancels
 returns-in-Cancels c =
-    let r = c.in-Field-next_field.read in
-    let p = c.in-Field-next_field.ensures in
+    let r = c.in-Some-next_field.field-0.read in
+    let p = c.in-Some-next_field.ensures in
     let h = sym c.has_name.ensures ∙ c.if-not-has_name.false in
     let m = c.in-Cancels.ensures in
     c.loop-at.invariant ∙ rw p.0 (scan-cancel _ _ _ _ _ r h p.1 m)
 
 pub returns-in-Answers : goal.returns-in-Answers
 returns-in-Answers c =
-    let r = c.in-Field-next_field.read in
-    let p = c.in-Field-next_field.ensures in
+    let r = c.in-Some-next_field.field-0.read in
+    let p = c.in-Some-next_field.ensures in
     let h = sym c.has_name.ensures ∙ c.if-not-has_name.false in
     let m = c.in-Answers.ensures in
     let t = field_at c.args.s.now c.loop-at.at in
@@ -48,13 +48,13 @@ returns-in-Answers c =
 
 pub loop-at-smaller : goal.loop-at-smaller
 loop-at-smaller c =
-    let p = c.in-Field-next_field.ensures in
+    let p = c.in-Some-next_field.ensures in
     omega arith
 
 pub loop-at-preserved : goal.loop-at-preserved
 loop-at-preserved c =
-    let r = c.in-Field-next_field.read in
-    let p = c.in-Field-next_field.ensures in
+    let r = c.in-Some-next_field.field-0.read in
+    let p = c.in-Some-next_field.ensures in
     let h = sym c.has_name.ensures ∙ c.if-not-has_name.false in
     let m = c.in-Passes.ensures in
     c.loop-at.invariant ∙ rw p.0 (scan_on _ _ _ _ _ r h p.1 m.0 m.1)

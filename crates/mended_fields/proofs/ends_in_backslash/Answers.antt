@@ -9,15 +9,15 @@ loop-b-init c = ends-start _
 
 pub loop-b-smaller : goal.loop-b-smaller
 loop-b-smaller c =
-    let p = c.in-Byte.ensures in
+    let p = c.in-Some.ensures in
     omega arith
 
 pub loop-b-preserved : goal.loop-b-preserved
 loop-b-preserved c =
-    let p = c.in-Byte.ensures in
+    let p = c.in-Some.ensures in
     c.loop-b.invariant ∙ rw p.0 (ends_on _ _ _)
 
-pub returns-in-End : goal.returns-in-End
-returns-in-End c =
-    let p = c.in-End.ensures in
+pub returns-in-None : goal.returns-in-None
+returns-in-None c =
+    let p = c.in-None.ensures in
     sym (c.loop-b.invariant ∙ rw p (ends_last _))

@@ -9,7 +9,9 @@ unfolding field_reason
 returns-then-linked c s at h = let q = rw c.in-Link.is at h in rw (q.0, c.if-linked.true)
 
 pub returns-then-linked-2 : goal.returns-then-linked-2
-returns-then-linked-2 c s at h = sym (reason-capability _ _ s at c.args.read c.in_default.not-Malformed c.in_default.not-Ignored c.in_default.not-Link h ∙ rw c.if-linked-2.true)
+returns-then-linked-2 c s at h =
+    let d = c.in_default in
+    sym (reason-capability _ _ s at c.args.read d.not-Malformed d.not-Ignored d.not-Link h ∙ rw c.if-linked-2.true)
 
 pub returns-in-Malformed : goal.returns-in-Malformed
 unfolding field_reason
@@ -24,4 +26,6 @@ unfolding field_reason
 returns-else-linked c s at h = let q = rw c.in-Link.is at h in rw (q.0, c.if-linked.false)
 
 pub returns-else-linked-2 : goal.returns-else-linked-2
-returns-else-linked-2 c s at h = sym (reason-capability _ _ s at c.args.read c.in_default.not-Malformed c.in_default.not-Ignored c.in_default.not-Link h ∙ rw c.if-linked-2.false)
+returns-else-linked-2 c s at h =
+    let d = c.in_default in
+    sym (reason-capability _ _ s at c.args.read d.not-Malformed d.not-Ignored d.not-Link h ∙ rw c.if-linked-2.false)

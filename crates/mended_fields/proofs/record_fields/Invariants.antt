@@ -15,8 +15,8 @@ pub record Going (s : List ℕ) (line place reason : ℕ) (records₀ : List ℕ
   pub within : at ≤ length s
   pub placed : here + length (line_at s at) ≡ place + length (line_at s 0)
 
-abbrev pub invariant-loop-why : goal.invariant-loop-why
-invariant-loop-why l = Going l.s l.line l.place l.reason l.initial.records l.from l.records l.at l.linked l.here l.n
+abbrev pub invariant-loop-part : goal.invariant-loop-part
+invariant-loop-part l = Going l.s l.line l.place l.reason l.initial.records l.from l.records l.at l.linked l.here l.n
 
-abbrev pub decreases-loop-why : goal.decreases-loop-why
-decreases-loop-why l = length l.s - l.at
+abbrev pub decreases-loop-part : goal.decreases-loop-part
+decreases-loop-part l = length l.s - l.at

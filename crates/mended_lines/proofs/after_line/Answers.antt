@@ -8,7 +8,7 @@ returns-then-end-db c =
     let e = c.line_end-end.ensures in
     rw e (own_newline c.args.db.now c.args.at c.requires (omega arith))
 
-pub returns : goal.returns
-returns c =
+pub returns-else-end-db : goal.returns-else-end-db
+returns-else-end-db c =
     let e = c.line_end-end.ensures in
     rw e (own_last c.args.db.now c.args.at c.requires (omega arith))

@@ -17,18 +17,18 @@ overflow_add-to c =
 pub write_kept-requires : goal.write_kept-requires
 write_kept-requires c =
     let n = names-short _ _ _ _ c.requires.1 in
-    (omega (arith, c.requires.0, part_short c.args.db.now c.args.fields), omega (arith, c.requires.0, c.requires.2))
+    (omega (arith, c.requires.0, part_short c.args.db.now c.args.start.fields), omega (arith, c.requires.0, c.requires.2))
 
 pub overflow_add-result : goal.overflow_add-result
 overflow_add-result c =
-    let s = part c.args.db.now c.args.fields in
+    let s = part c.args.db.now c.args.start.fields in
     omega (
       arith,
       c.requires.0,
       names-short _ _ _ _ c.requires.1,
       c.write_kept.ensures.count,
       kept_bound s c.args.reason false 0,
-      part_short c.args.db.now c.args.fields,
+      part_short c.args.db.now c.args.start.fields,
     )
 
 pub returns : goal.returns

@@ -22,19 +22,19 @@ returns-then-t c =
 
 pub loop-t-smaller : goal.loop-t-smaller
 loop-t-smaller c =
-    let p = c.in-To.ensures in
+    let p = c.in-Some.ensures in
     omega arith
 
 pub loop-t-preserved : goal.loop-t-preserved
 loop-t-preserved c =
     let t = text_at c.args.s.now c.loop-t.at in
-    let p = c.in-To.ensures in
+    let p = c.in-Some.ensures in
     let left = go_on _ _ _ (line_names (line_text t)) (names_in (later_lines t)) _ c.loop-t.invariant _ c.count_line-t.ensures c.if-t.false in
-    rw (← names-from c.in-To.p _, ← p.0) left
+    rw (← names-from c.in-Some.p _, ← p.0) left
 
-pub returns-in-Last : goal.returns-in-Last
-returns-in-Last c =
+pub returns-in-None : goal.returns-in-None
+returns-in-None c =
     let t = text_at c.args.s.now c.loop-t.at in
-    let p = c.in-Last.ensures in
+    let p = c.in-None.ensures in
     let left = go_on _ _ _ (line_names (line_text t)) (names_in (later_lines t)) _ c.loop-t.invariant _ c.count_line-t.ensures c.if-t.false in
     none_left _ _ _ _ (rw (← no_names, ← p) left)

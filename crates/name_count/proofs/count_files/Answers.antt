@@ -26,30 +26,33 @@ module _ (db : Files) (k : ℕ) where
 pub loop-k-init : goal.loop-k-init
 loop-k-init c =
     let fs = contents (files c.args.db.now c.args.ends.now) in
-    (c.requires.ends_len_bound, rw (← onward-start fs) (at-start _ _ _), omega arith)
+    rw (← onward-start fs) (at-start _ _ _)
 
 pub count_file-t-requires : goal.count_file-t-requires
 count_file-t-requires c =
     let db = files c.args.db.now c.args.ends.now in
     let k = c.loop-k.k in
-    rw c.file.ensures (next_fits _ _ _ (here db k) (onward db k) _ (split db k c.args.name.now c.loop-k.n c.loop-k-test.true c.loop-k.invariant.1) c.requires.fits)
+    let left = split db k c.args.name.now c.loop-k.n (omega (arith, c.loop-k-test.true)) c.loop-k.invariant in
+    rw c.file.ensures (next_fits _ _ _ (here db k) (onward db k) _ left c.requires.fits)
 
 pub returns-then-t : goal.returns-then-t
 returns-then-t c =
     let db = files c.args.db.now c.args.ends.now in
     let k = c.loop-k.k in
+    let left = split db k c.args.name.now c.loop-k.n (omega (arith, c.loop-k-test.true)) c.loop-k.invariant in
     let tally = rw c.file.ensures at c.count_file-t.ensures in
-    found_here _ _ _ (here db k) (onward db k) _ (split db k c.args.name.now c.loop-k.n c.loop-k-test.true c.loop-k.invariant.1) _ tally c.if-t.true
+    found_here _ _ _ (here db k) (onward db k) _ left _ tally c.if-t.true
 
 pub loop-k-preserved : goal.loop-k-preserved
 loop-k-preserved c =
     let db = files c.args.db.now c.args.ends.now in
     let k = c.loop-k.k in
+    let left = split db k c.args.name.now c.loop-k.n (omega (arith, c.loop-k-test.true)) c.loop-k.invariant in
     let tally = rw c.file.ensures at c.count_file-t.ensures in
-    (c.loop-k.invariant.0, go_on _ _ _ (here db k) (onward db k) _ (split db k c.args.name.now c.loop-k.n c.loop-k-test.true c.loop-k.invariant.1) _ tally c.if-t.false, omega arith)
+    go_on _ _ _ (here db k) (onward db k) _ left _ tally c.if-t.false
 
 pub returns : goal.returns
 returns c =
     let db = files c.args.db.now c.args.ends.now in
     let none = onward-end (contents db) c.loop-k.k (omega (arith, c.loop-k-test.false, length-contents db)) in
-    none_left _ _ _ _ (rw none at c.loop-k.invariant.1)
+    none_left _ _ _ _ (rw none at c.loop-k.invariant)

@@ -20,17 +20,17 @@ returns-then-t c =
 
 pub loop-t-smaller : goal.loop-t-smaller
 loop-t-smaller c =
-    let p = c.in-To.ensures in
+    let p = c.in-Some.ensures in
     omega arith
 
 pub loop-t-preserved : goal.loop-t-preserved
 loop-t-preserved c =
     let l = line_text (text_at c.args.s.now c.loop-t.i) in
-    let p = c.in-To.ensures in
+    let p = c.in-Some.ensures in
     rw (← p.0) (go_on _ _ _ (first_name l ∷ []) (later_names l) _ c.loop-t.invariant _ c.count_name-t.ensures c.if-t.false)
 
-pub returns-in-Last : goal.returns-in-Last
-returns-in-Last c =
+pub returns-in-None : goal.returns-in-None
+returns-in-None c =
     let l = line_text (text_at c.args.s.now c.loop-t.i) in
-    let p = c.in-Last.ensures in
+    let p = c.in-None.ensures in
     none_left _ _ _ _ (rw (← p) (go_on _ _ _ (first_name l ∷ []) (later_names l) _ c.loop-t.invariant _ c.count_name-t.ensures c.if-t.false))

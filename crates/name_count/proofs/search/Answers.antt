@@ -25,23 +25,16 @@ returns-then-db-gt-MOST_BYTES c =
     let e = sym (search_large _ _ g (sym c.is_good_name.ensures ∙ c.if-not-is_good_name.false) c.if-db-gt-MOST_BYTES.true) in
     (e, ap searched_report e)
 
-pub count_files-t-requires : goal.count_files-t-requires
-count_files-t-requires c =
+pub count_files-requires : goal.count_files-requires
+count_files-requires c =
     let a = c.args in
     let db = files a.db.now a.ends.now in
     let g = sym c.are_good_ends.ensures ∙ c.if-not-are_good_ends.false in
     record { ends_len_bound = good-few db g; fits = omega (arith, c.if-db-gt-MOST_BYTES.false, good-few db g, count_most db a.name.now g) }
 
-pub returns-then-t : goal.returns-then-t
-returns-then-t c =
-    let g = sym c.are_good_ends.ensures ∙ c.if-not-are_good_ends.false in
-    let m = sym c.is_good_name.ensures ∙ c.if-not-is_good_name.false in
-    let e = sym (search-told _ _ g _ _ m c.if-db-gt-MOST_BYTES.false c.count_files-t.ensures c.if-t.true) in
-    (e, ap searched_report e)
-
 pub returns : goal.returns
 returns c =
     let g = sym c.are_good_ends.ensures ∙ c.if-not-are_good_ends.false in
     let m = sym c.is_good_name.ensures ∙ c.if-not-is_good_name.false in
-    let e = sym (search-told _ _ g _ _ m c.if-db-gt-MOST_BYTES.false c.count_files-t.ensures c.if-t.false) in
+    let e = sym (search-told _ _ g _ m c.if-db-gt-MOST_BYTES.false c.count_files.ensures) in
     (e, ap searched_report e)

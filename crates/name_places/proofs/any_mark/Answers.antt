@@ -1,5 +1,4 @@
 -- `name_places::any_mark` meets its contract.
-use mathlib.Core.Bool.{true≢false}
 use native.Mathlib.Omega.{arith}
 use Rattle.name_places.proofs.Marking.{settled-marked}
 use Rattle.name_places.proofs.any_mark.Goals as goal
@@ -9,12 +8,6 @@ returns-then-high-eq0 c =
     let m = c.mark_places-marks.ensures in
     let low = m.lowest in
     λ e. settled-marked _ _ c.args.at _ _ m (omega arith) (omega arith) (λ h. absurd (omega arith))
-
-pub returns-then-high-gt-PART : goal.returns-then-high-gt-PART
-returns-then-high-gt-PART c = λ e. absurd (true≢false e)
-
-pub returns-then-high-low : goal.returns-then-high-low
-returns-then-high-low c = λ e. absurd (true≢false e)
 
 pub returns : goal.returns
 returns c = λ e. settled-marked _ _ c.args.at _ _

@@ -1,10 +1,7 @@
 -- `name_scan::any_plain_fit` meets its contract: while no test has held, the places passed are settled.
-use Rattle.std.proofs.Common.{◌≡◌, ◌+◌, ◌-◌, ◌≤◌, false}
+use Rattle.std.proofs.Common.{◌≡◌, ◌+◌, false}
 use Rattle.name_places.specs.Marks.{AllSettled}
 use Rattle.name_scan.proofs.any_plain_fit.Given as goal
 
 abbrev pub invariant-loop-k : goal.invariant-loop-k
-invariant-loop-k l = (l.k ≤ 16) × (l.hit ≡ false → AllSettled l.s l.name l.at (l.at + l.k))
-
-abbrev pub decreases-loop-k : goal.decreases-loop-k
-decreases-loop-k l = 16 - l.k
+invariant-loop-k l = l.hit ≡ false → AllSettled l.s l.name l.at (l.at + l.k)

@@ -2,6 +2,7 @@
 use lib.ListN.{length}
 use mathlib.Core.Path.{◌≡◌}
 use native.Mathlib.Omega.{arith}
+use Rattle.std.proofs.lemmas.Grind.{common_steps}
 use Rattle.name_search.proofs.LineEnds.{none-behind}
 use Rattle.name_search.proofs.Passing.{next-line, passed-line, passed-all}
 use Rattle.name_search.proofs.next_candidate.Goals as goal
@@ -15,32 +16,12 @@ returns-then-end-len c =
 pub returns-then-end-lt2 : goal.returns-then-end-lt2
 returns-then-end-lt2 c = next-line _ _ _ (omega arith) (c.requires.closes (omega arith))
 
-pub returns-then-name-eq0 : goal.returns-then-name-eq0
-returns-then-name-eq0 c = next-line _ _ _ (omega arith) (c.requires.closes (omega arith))
-
-pub overflow_sub-len : goal.overflow_sub-len
-overflow_sub-len c =
-    let p = c.next_hit-at.ensures.passed (omega arith) (omega arith) in
-    omega (arith, p.inside)
-
-pub overflow_add-at : goal.overflow_add-at
-overflow_add-at c =
-    let p = c.next_hit-at.ensures.passed (omega arith) (omega arith) in
-    omega (arith, p.inside)
-
-pub line_of-requires : goal.line_of-requires
-line_of-requires c =
-    let p = c.next_hit-at.ensures.passed (omega arith) (omega arith) in record { end_lt_at = omega (arith, p.from); at_in_bounds = omega arith; closes = c.requires.closes (omega arith) }
-
 pub returns-then-len-at-gt2 : goal.returns-then-len-at-gt2
 returns-then-len-at-gt2 c =
-    let p = c.next_hit-at.ensures.passed (omega arith) (omega arith) in
-    passed-line (omega arith)
-    (c.requires.closes (omega arith))
-    p.settled _ (omega arith) c.line_of.ensures
+    let p = c.next_hit-at.ensures.passed (grind (arith, common_steps)) (omega arith) in
+    passed-line (omega arith) (c.requires.closes (omega arith)) p.settled _ (omega arith) c.line_of.ensures
 
 pub returns : goal.returns
 returns c =
-    let p = c.next_hit-at.ensures.passed (omega arith) (omega arith) in
-    passed-all (omega arith) (c.requires.closes
-    (omega arith)) p.settled (omega arith) (omega (arith, p.inside))
+    let p = c.next_hit-at.ensures.passed (grind (arith, common_steps)) (omega arith) in
+    passed-all (omega arith) (c.requires.closes (omega arith)) p.settled (omega arith) (omega (arith, p.inside))

@@ -3,10 +3,9 @@
 use Prim.Native.Nat.{ℕ, ◌≤◌}
 use mathlib.Core.Path.{◌≡◌, refl, ◌∙◌, ap, sym}
 use native.Mathlib.Omega.{arith}
-use borrow.Author.Rules.{rules}
 use mathlib.Core.List.{List}
 use Rattle.spec.specs.Lines.{extent}
-use Rattle.name_search.proofs.search_lines.Goals.{then-not-is_ignored+else-is_name+in-Last, else-not-is_ignored}
+use Rattle.name_search.proofs.search_lines.Goals.{then-not-is_ignored+else-is_name+in-None, else-not-is_ignored}
 use lib.ListN.{length}
 use Rattle.laws.proofs.TextSteps as Laws
 use Rattle.laws.proofs.Extents.{extent-inside}
@@ -27,19 +26,11 @@ module _ (db name : List ℕ) (at stop : ℕ) (is : stop ≡ extent db at) (low 
 
 pub lines-init : goal.lines-init
 unfolding find_line
-lines-init c = (omega arith, apart-start c.args.db.now, refl, refl, refl)
-
-pub loop-p-init : goal.loop-p-init
-loop-p-init c = refl
-
-pub loop-p-smaller : goal.loop-p-smaller
-loop-p-smaller c =
-    let p = c.in-To.ensures in
-    omega arith
+lines-init c = (omega arith, apart-start c.args.db.now, refl)
 
 pub loop-p-preserved : goal.loop-p-preserved
 loop-p-preserved c =
-    let p = c.in-To.ensures in
+    let p = c.in-Some.ensures in
     let another = sym c.is_name.ensures ∙ c.if-is_name.false in
     rw (c.loop-p.invariant, Laws.among_next _ _ _ another, p.0)
 
@@ -54,23 +45,23 @@ next_candidate-requires c =
 pub lines-smaller : goal.lines-smaller
 lines-smaller c =
     let i = c.lines.invariant in
-    let p = c.in-To-next_candidate.ensures in
+    let p = c.in-Some-next_candidate.ensures in
     let w = p.starts in
     omega (arith, (inside _ c.args.name.now _ _ c.line_end.ensures i.0 i.1).0, w.1, w.2, p.inside)
 
 pub lines-preserved : goal.lines-preserved
 lines-preserved c =
-    let p = c.in-To-next_candidate.ensures in
+    let p = c.in-Some-next_candidate.ensures in
     let i = c.lines.invariant in
     let missed : find_line c.args.db.now c.args.name.now ≡ find c.args.name.now (later_lines (text_at c.args.db.now c.lines.at)) =
     elim c.if-not-is_ignored.branch [
-      | then-not-is_ignored+else-is_name+in-Last w ↦
-          let none = w.loop-p.invariant ∙ Laws.among_last _ _ _ (sym w.is_name.ensures ∙ w.if-is_name.false) w.in-Last.ensures in
+      | then-not-is_ignored+else-is_name+in-None w ↦
+          let none = w.loop-p.invariant ∙ Laws.among_last _ _ _ (sym w.is_name.ensures ∙ w.if-is_name.false) w.in-None.ensures in
           c.lines.invariant.2 ∙ Laws.find_on _ _ _ none
       | else-not-is_ignored w ↦ c.lines.invariant.2 ∙ Laws.find_past _ _ _ (sym c.is_ignored.ensures ∙ w.if-not-is_ignored.false)
     ] in
     let found = came _ c.args.name.now _ _ c.line_end.ensures i.0 i.1 missed ∙ p.passed in
-    (p.inside, apart-behind _ _ _ p.starts, found, search rules, search rules)
+    (p.inside, apart-behind _ _ _ p.starts, found)
 
 pub returns-then-is_name : goal.returns-then-is_name
 returns-then-is_name c =
@@ -78,14 +69,14 @@ returns-then-is_name c =
     let kept = sym c.is_ignored.ensures ∙ c.if-not-is_ignored.true in
     sym (c.lines.invariant.2 ∙ Laws.find_here _ _ _ kept hit)
 
-pub returns-in-Last-next_candidate : goal.returns-in-Last-next_candidate
-returns-in-Last-next_candidate c =
-    let p = c.in-Last-next_candidate.ensures in
+pub returns-in-None-next_candidate : goal.returns-in-None-next_candidate
+returns-in-None-next_candidate c =
+    let p = c.in-None-next_candidate.ensures in
     let i = c.lines.invariant in
     let missed : find_line c.args.db.now c.args.name.now ≡ find c.args.name.now (later_lines (text_at c.args.db.now c.lines.at)) =
     elim c.if-not-is_ignored.branch [
-      | then-not-is_ignored+else-is_name+in-Last w ↦
-          let none = w.loop-p.invariant ∙ Laws.among_last _ _ _ (sym w.is_name.ensures ∙ w.if-is_name.false) w.in-Last.ensures in
+      | then-not-is_ignored+else-is_name+in-None w ↦
+          let none = w.loop-p.invariant ∙ Laws.among_last _ _ _ (sym w.is_name.ensures ∙ w.if-is_name.false) w.in-None.ensures in
           c.lines.invariant.2 ∙ Laws.find_on _ _ _ none
       | else-not-is_ignored w ↦ c.lines.invariant.2 ∙ Laws.find_past _ _ _ (sym c.is_ignored.ensures ∙ w.if-not-is_ignored.false)
     ] in

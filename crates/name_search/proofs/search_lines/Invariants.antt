@@ -3,7 +3,6 @@
 use Prim.Native.Nat.{◌-◌, ◌≤◌}
 use mathlib.Core.Path.{◌≡◌}
 use lib.ListN.{length}
-use Rattle.laws.proofs.TextSteps as Laws
 use Rattle.spec.specs.Lines.{text_at, line_text, lines_from, has_name, find, find_line}
 use Rattle.name_search.proofs.LineEnds.{Apart}
 use Rattle.name_search.proofs.search_lines.Given as goal
@@ -16,8 +15,7 @@ decreases-loop-p l = length l.db - l.p
 
 abbrev pub invariant-lines : goal.invariant-lines
 invariant-lines l =
-    (l.at ≤ length l.db) × Apart l.db l.at × (find_line l.db l.name ≡ find l.name (lines_from l.at (text_at l.db l.at))) × (length l.blocks ≡ length l.initial.blocks)
-    × (length l.parts ≡ length l.initial.parts)
+    (l.at ≤ length l.db) × Apart l.db l.at × (find_line l.db l.name ≡ find l.name (lines_from l.at (text_at l.db l.at)))
 
 abbrev pub decreases-lines : goal.decreases-lines
 decreases-lines l = length l.db - l.at

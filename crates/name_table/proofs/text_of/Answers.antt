@@ -3,8 +3,8 @@ use native.Mathlib.Omega.{arith}
 use Rattle.name_table.proofs.Laws.{at_most, text_is}
 use Rattle.name_table.proofs.text_of.Goals as goal
 
-pub overflow_add-to : goal.overflow_add-to
-overflow_add-to c = let m = at_most 64 _ c.args.j c.requires.at_most in omega arith
+pub overflow_add-result : goal.overflow_add-result
+overflow_add-result c = let m = at_most 64 _ c.args.j c.requires.at_most in omega arith
 
 pub slice_bounds-result-end : goal.slice_bounds-result-end
 slice_bounds-result-end c = let m = at_most 64 _ c.args.j c.requires.at_most in omega arith

@@ -1,12 +1,7 @@
 -- `padding::read_digits` meets its contract. The invariant: the digits from `at` on are those up to `i`, whose value is `value`, and those
--- after it. The measure is what is left of the text.
-use Prim.Native.Nat.{◌-◌}
-use lib.ListN.{length}
+-- after it.
 use Rattle.padding.proofs.DigitSteps.{DigitsSoFar}
 use Rattle.padding.proofs.read_digits.Given as goal
 
 abbrev pub invariant-loop-i : goal.invariant-loop-i
 invariant-loop-i l = DigitsSoFar l.s l.at l.value l.i
-
-abbrev pub decreases-loop-i : goal.decreases-loop-i
-decreases-loop-i l = length l.s - l.i

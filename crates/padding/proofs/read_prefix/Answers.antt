@@ -1,74 +1,46 @@
 -- `padding::read_prefix` meets its contract: each way out is one case of the prefix.
-use Rattle.padding.proofs.DigitSteps.{value-small}
-use Rattle.padding.proofs.PrefixCases.{prefix-none, prefix_many, prefix-all, prefix-plain, prefix_point, prefix_two, prefix_tenth}
 use native.Mathlib.Omega.{arith}
+use mathlib.Core.Path.{◌≡◌}
+use Prim.Native.Nat.{◌+◌, ◌<◌}
+use lib.ListN.{get_or}
+use Rattle.std.proofs.Common.{rules}
+use Rattle.padding.proofs.PrefixCases.{prefix-none, prefix_many, prefix-plain, prefix_point, prefix_two, prefix_tenth}
 use Rattle.padding.proofs.read_prefix.Goals as goal
 
 pub returns-then-end-eq0 : goal.returns-then-end-eq0
-returns-then-end-eq0 c =
-    let s = c.args.command.now in
-    let d = c.read_digits-whole in
-    prefix-none s d.result.value d.result.end d.ensures c.if-end-eq0.true
+returns-then-end-eq0 c = prefix-none _ _ _ c.read_digits-whole.ensures c.if-end-eq0.true
 
 pub returns-then-end-gt4 : goal.returns-then-end-gt4
-returns-then-end-gt4 c =
-    let s = c.args.command.now in
-    let d = c.read_digits-whole in
-    prefix_many s d.result.value d.result.end d.ensures (omega arith)
+returns-then-end-gt4 c = prefix_many _ _ _ c.read_digits-whole.ensures (omega arith)
 
-pub overflow_mul-delay : goal.overflow_mul-delay
-overflow_mul-delay c =
+pub returns-in_default : goal.returns-in_default
+returns-in_default c =
     let d = c.read_digits-whole in
-    let v = value-small 0 d.result.value d.result.end d.ensures.five d.ensures.below in
-    omega arith
+    let other : get_or c.args.command.now d.result.end 0 ≡ 46 → ⊥ = search rules in
+    prefix-plain _ _ _ d.ensures c.if-end-eq0.false (omega arith) other _ c.read_star.ensures
 
-pub returns-then-end-command : goal.returns-then-end-command
-returns-then-end-command c =
-    let s = c.args.command.now in
-    let d = c.read_digits-whole in
-    prefix-all s d.result.value d.result.end d.ensures c.if-end-eq0.false (omega arith) c.if-end-command.true
-
-pub returns-then-command-end-ne46 : goal.returns-then-command-end-ne46
-returns-then-command-end-ne46 c =
-    let s = c.args.command.now in
-    let d = c.read_digits-whole in
-    let w = d.ensures.within in
-    prefix-plain s d.result.value d.result.end d.ensures c.if-end-eq0.false (omega arith) (omega arith)
-    c.if-command-end-ne46.true c.read_star.result c.read_star.ensures
-
-pub returns-then-past-end : goal.returns-then-past-end
-returns-then-past-end c =
-    let s = c.args.command.now in
+pub returns-in-1 : goal.returns-in-1
+returns-in-1 c =
     let d = c.read_digits-whole in
     let e = c.read_digits-tenths in
-    let w = d.ensures.within in
-    prefix_point s d.result.value d.result.end d.ensures c.if-end-eq0.false (omega arith)
-    e.result.value e.result.end (omega arith) c.if-command-end-ne46.false e.ensures c.if-past-end.true
+    let point = c.in-Some-eq46.ensures.lookup.3 in
+    let is : get_or c.args.command.now d.result.end 0 ≡ 46 = search rules in
+    prefix_point _ _ _ d.ensures c.if-end-eq0.false (omega arith) _ _ point.0 is e.ensures (omega arith)
 
-pub returns-then-past-end-2 : goal.returns-then-past-end-2
-returns-then-past-end-2 c =
-    let s = c.args.command.now in
+pub returns-in-2 : goal.returns-in-2
+returns-in-2 c =
     let d = c.read_digits-whole in
     let e = c.read_digits-tenths in
-    let w = d.ensures.within in
-    prefix_two s d.result.value d.result.end d.ensures c.if-end-eq0.false (omega arith)
-    e.result.value e.result.end (omega arith) c.if-command-end-ne46.false e.ensures (omega arith)
+    let point = c.in-Some-eq46.ensures.lookup.3 in
+    let is : get_or c.args.command.now d.result.end 0 ≡ 46 = search rules in
+    prefix_tenth _ _ _ d.ensures c.if-end-eq0.false (omega arith) _ _ point.0 is e.ensures (omega arith) _ c.read_star-in-2.ensures
 
-pub overflow_add-delay : goal.overflow_add-delay
-overflow_add-delay c =
+pub returns-in_default-2 : goal.returns-in_default-2
+returns-in_default-2 c =
     let d = c.read_digits-whole in
     let e = c.read_digits-tenths in
-    let v = value-small 0 d.result.value d.result.end d.ensures.five d.ensures.below in
-    let u = value-small _ e.result.value e.result.end e.ensures.five e.ensures.below in
-    omega arith
-
-pub returns : goal.returns
-returns c =
-    let s = c.args.command.now in
-    let d = c.read_digits-whole in
-    let e = c.read_digits-tenths in
-    let w = d.ensures.within in
-    prefix_tenth s d.result.value d.result.end d.ensures
-    c.if-end-eq0.false (omega arith) e.result.value e.result.end
-    (omega arith) c.if-command-end-ne46.false e.ensures c.if-past-end.false (omega arith)
-    c.read_star-2.result c.read_star-2.ensures
+    let point = c.in-Some-eq46.ensures.lookup.3 in
+    let is : get_or c.args.command.now d.result.end 0 ≡ 46 = search rules in
+    let after = e.ensures.after in
+    let many : d.result.end + 2 < e.result.end = search rules in
+    prefix_two _ _ _ d.ensures c.if-end-eq0.false (omega arith) _ _ point.0 is e.ensures many

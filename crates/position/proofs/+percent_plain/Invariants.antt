@@ -12,14 +12,11 @@ decreases-percent l = length l.command.now
 abbrev pub decreases-plain : goal.decreases-plain
 decreases-plain l = length l.command.now
 
-abbrev pub invariant-percent-loop-r : goal.invariant-percent-loop-r
-invariant-percent-loop-r l = Went l.command l.g (parameters_of l.fn.first) l.initial.out l.start l.out l.i l.at (parameters_of l.ps)
+abbrev pub invariant-percent-loop-done : goal.invariant-percent-loop-done
+invariant-percent-loop-done l = Went l.command l.g (parameters_of l.fn.first) l.initial.out l.start l.out l.i l.at (parameters_of l.ps)
 
-abbrev pub decreases-percent-loop-r : goal.decreases-percent-loop-r
-decreases-percent-loop-r l = length l.command - l.i
+abbrev pub decreases-percent-loop-done : goal.decreases-percent-loop-done
+decreases-percent-loop-done l = length l.command - l.i
 
 abbrev pub invariant-plain-loop-i : goal.invariant-plain-loop-i
 invariant-plain-loop-i l = Run l.command l.g (parameters_of l.ps) l.initial.out l.at l.out l.i
-
-abbrev pub decreases-plain-loop-i : goal.decreases-plain-loop-i
-decreases-plain-loop-i l = length l.command - l.i

@@ -3,6 +3,7 @@ use mathlib.Core.Path.{◌∙◌, sym}
 use native.Mathlib.Omega.{arith}
 use Rattle.identifiers.proofs.AskedNames.{id_length}
 use Rattle.questions.proofs.Terminals.{asked-bad_id, asked-good, asked-bytes}
+use Rattle.std.proofs.lemmas.Result.{err_from_is_err_and}
 use Rattle.questions.proofs.ask.Goals as goal
 
 pub returns-then-not-is_good_id : goal.returns-then-not-is_good_id
@@ -20,24 +21,15 @@ bounds-id-1 c =
     let i = sym c.is_good_id.ensures ∙ c.if-not-is_good_id.false in
     omega (arith, id_length _ i)
 
-pub returns-in-Refused : goal.returns-in-Refused
-returns-in-Refused c =
-    let w = rw c.in-Refused.is at c.resolve-w.ensures in
+pub returns-in_err-chain : goal.returns-in_err-chain
+returns-in_err-chain c =
+    let r = err_from_is_err_and c.from_residual.result c.from_residual.ensures.1 in
     let i = sym c.is_good_id.ensures ∙ c.if-not-is_good_id.false in
-    asked-good _ _ _ i ∙ w.0
+    rw (r.1, r.2) (asked-good _ _ _ i ∙ c.in_err-chain.ensures)
 
-pub returns-in-Nothing : goal.returns-in-Nothing
-returns-in-Nothing c =
-    let w = rw c.in-Accepted.is at c.resolve-w.ensures in
+pub returns : goal.returns
+returns c =
+    let w = c.in_ok-chain.ensures in
     let i = sym c.is_good_id.ensures ∙ c.if-not-is_good_id.false in
     let l = c.look_up in
-    let h = rw c.in-Nothing.is at (asked-bytes _ _ _ _ l.result i l.ensures) in
-    (_, _, asked-good _ _ _ i ∙ w.0, h)
-
-pub returns-in-Field : goal.returns-in-Field
-returns-in-Field c =
-    let w = rw c.in-Accepted.is at c.resolve-w.ensures in
-    let i = sym c.is_good_id.ensures ∙ c.if-not-is_good_id.false in
-    let l = c.look_up in
-    let h = rw c.in-Field.is at (asked-bytes _ _ _ _ l.result i l.ensures) in
-    (_, _, asked-good _ _ _ i ∙ w.0, h, w.3)
+    (_, _, asked-good _ _ _ i ∙ w.0, asked-bytes _ _ _ _ l.result i l.ensures, w.3)

@@ -1,22 +1,8 @@
 -- `removal_notes::advance` meets its contract.
 use mathlib.Core.Path.{refl, ap, ◌∙◌}
-use native.Mathlib.Omega.{arith}
 use Rattle.removal_notes.specs.Notes.{text_from}
 use Rattle.removal_notes.proofs.Texts.{lines_and_bytes}
 use Rattle.removal_notes.proofs.advance.Goals as goal
-
-pub skip_lines-start-requires : goal.skip_lines-start-requires
-skip_lines-start-requires c = c.requires.db_len_bound.1.inside
-
-pub skip_bytes-at-requires : goal.skip_bytes-at-requires
-skip_bytes-at-requires c = c.skip_lines-start.ensures.2
-
-pub move_on-position-requires : goal.move_on-position-requires
-move_on-position-requires c =
-    let l = c.skip_lines-start.ensures in
-    let b = c.skip_bytes-at.ensures in
-    let pre = c.requires.db_len_bound in
-    record { from_le_to = (omega (arith, l.1, b.1), b.2, pre.0); p_value = pre.1.position }
 
 pub returns : goal.returns
 returns c =

@@ -4,19 +4,14 @@ use native.Mathlib.Omega.{arith}
 use Rattle.removal_notes.specs.Notes.{place_of}
 use Rattle.removal_notes.proofs.own_place.Goals as goal
 
-pub overflow_sub-result : goal.overflow_sub-result
-overflow_sub-result c =
-    let p = c.in-Byte.ensures in
-    omega (arith, p.1)
-
-pub returns-in-Byte : goal.returns-in-Byte
+pub returns-in-Some : goal.returns-in-Some
 unfolding place_of
-returns-in-Byte c =
-    let p = c.in-Byte.ensures in
+returns-in-Some c =
+    let p = c.in-Some.ensures in
     (rw p.0 refl, omega (arith, p.1), omega (arith, p.2))
 
-pub returns-in-End : goal.returns-in-End
+pub returns-in-None : goal.returns-in-None
 unfolding place_of
-returns-in-End c =
-    let p = c.in-End.ensures in
+returns-in-None c =
+    let p = c.in-None.ensures in
     (rw p refl, omega arith, omega arith)

@@ -8,25 +8,6 @@ use Rattle.removal_notes.specs.Notes.{Put, note}
 use Rattle.removal_notes.proofs.Storing.{put_then}
 use Rattle.removal_notes.proofs.put_note.Goals as goal
 
-pub put_place-at-requires : goal.put_place-at-requires
-put_place-at-requires c = c.requires.0
-
-pub overflow_add-colon : goal.overflow_add-colon
-overflow_add-colon c =
-    omega (arith, c.put_place-at.ensures.1, c.requires.0, c.requires.1)
-
-pub overflow_add-colon-2 : goal.overflow_add-colon-2
-overflow_add-colon-2 c =
-    omega (arith, c.put_place-at.ensures.1, c.requires.0, c.requires.1)
-
-pub put_removed-end-requires : goal.put_removed-end-requires
-put_removed-end-requires c =
-    omega (arith, c.put_place-at.ensures.1, c.requires.0, c.requires.1)
-
-pub overflow_add-result : goal.overflow_add-result
-overflow_add-result c =
-    omega (arith, c.put_removed-end.ensures.1, c.put_place-at.ensures.1, c.requires.0, c.requires.1)
-
 pub returns : goal.returns
 unfolding note
 returns c =

@@ -9,24 +9,6 @@ use Rattle.removal_notes.specs.Notes.{Put, place_text}
 use Rattle.removal_notes.proofs.Storing.{put_then, put-after}
 use Rattle.removal_notes.proofs.put_place.Goals as goal
 
-pub overflow_add-path : goal.overflow_add-path
-overflow_add-path c = omega (arith, c.requires)
-
-pub put_decimal-row-requires : goal.put_decimal-row-requires
-put_decimal-row-requires c = omega (arith, c.requires)
-
-pub overflow_add-row : goal.overflow_add-row
-overflow_add-row c =
-    omega (arith, c.put_decimal-row.ensures.upper_bound, c.requires)
-
-pub put_decimal-column-requires : goal.put_decimal-column-requires
-put_decimal-column-requires c =
-    omega (arith, c.put_decimal-row.ensures.upper_bound, c.requires)
-
-pub overflow_add-result : goal.overflow_add-result
-overflow_add-result c =
-    omega (arith, c.put_decimal-row.ensures.upper_bound, c.put_decimal-column.ensures.upper_bound, c.requires)
-
 pub returns : goal.returns
 unfolding place_text
 returns c =

@@ -5,21 +5,12 @@ use Rattle.spec.specs.Lines.{text_at}
 use Rattle.removal_notes.proofs.Storing.{put_then, shown_long, shown-short}
 use Rattle.removal_notes.proofs.put_removed.Goals as goal
 
-pub put_joined-end-requires : goal.put_joined-end-requires
-put_joined-end-requires c = (omega arith, c.requires)
-
-pub overflow_add-result : goal.overflow_add-result
-overflow_add-result c = omega (arith, c.put_joined-end.ensures.1)
-
 pub returns-then-count-gt-MOST_SHOWN : goal.returns-then-count-gt-MOST_SHOWN
 returns-then-count-gt-MOST_SHOWN c =
     let a = c.args in
     let j = c.put_joined-end in
     let e = shown_long a.count (text_at a.db.now a.from) c.if-count-gt-MOST_SHOWN.true in
     rw e (put_then j.ensures.0 (record { place = refl; stored = c.put_bytes.ensures }), omega (arith, j.ensures.1))
-
-pub put_joined-requires : goal.put_joined-requires
-put_joined-requires c = (omega arith, c.requires)
 
 pub returns : goal.returns
 returns c =

@@ -1,5 +1,4 @@
 -- `repair::mend_lines` meets its contract: what is stored, with what the lines from `at` on give, is all (`Going`, `Gone`).
-use Prim.Native.Nat.{◌≤◌}
 use native.Mathlib.Omega.{arith}
 use Rattle.repair.proofs.Mending.{storing_small, going_first, line-passed, next_going, last_gone}
 use Rattle.repair.proofs.mend_lines.Goals as goal
@@ -11,11 +10,11 @@ pub line_reason-line-requires : goal.line_reason-line-requires
 line_reason-line-requires c = c.requires.beside
 
 pub overflow_mul-count : goal.overflow_mul-count
-overflow_mul-count c = omega (arith, (let small' : (c.loop-next.bytes ≤ 1048576) × (c.loop-next.count ≤ 524288) = storing_small _ _ _ _ _ _ _ _ c.requires.small c.loop-next.invariant.storing in small').1)
+overflow_mul-count c = omega (arith, (storing_small _ _ _ _ _ _ _ _ c.requires.small c.loop-next.invariant.storing).1)
 
 pub mend_line-amounts-requires : goal.mend_line-amounts-requires
 mend_line-amounts-requires c =
-    let s = (let small' : (c.loop-next.bytes ≤ 1048576) × (c.loop-next.count ≤ 524288) = storing_small _ _ _ _ _ _ _ _ c.requires.small c.loop-next.invariant.storing in small') in
+    let s = storing_small _ _ _ _ _ _ _ _ c.requires.small c.loop-next.invariant.storing in
     (c.requires.small, c.loop-next.invariant.inside, omega (arith, s.0), omega (arith, s.1))
 
 pub overflow_add-bytes : goal.overflow_add-bytes
@@ -36,19 +35,19 @@ overflow_add-number c =
 
 pub loop-next-smaller : goal.loop-next-smaller
 loop-next-smaller c =
-    let p = c.in-To.ensures in
+    let p = c.in-Some.ensures in
     omega (arith, p.1, p.2)
 
 pub loop-next-preserved : goal.loop-next-preserved
 loop-next-preserved c =
-    let p = c.in-To.ensures in
+    let p = c.in-Some.ensures in
     let gone = line-passed _ _ _ _ _ _ _ c.requires _ _ _ _ _ c.loop-next.invariant c.line_reason-line.result c.line_reason-line.ensures _ _
     c.mend_line-amounts.result c.mend_line-amounts.ensures in
     next_going _ _ _ _ _ _ _ c.requires _ _ _ _ _ gone _ p.0 p.1 p.2
 
-pub returns-in-Last : goal.returns-in-Last
-returns-in-Last c =
-    let p = c.in-Last.ensures in
+pub returns-in-None : goal.returns-in-None
+returns-in-None c =
+    let p = c.in-None.ensures in
     let gone = line-passed _ _ _ _ _ _ _ c.requires _ _ _ _ _ c.loop-next.invariant c.line_reason-line.result c.line_reason-line.ensures _ _
     c.mend_line-amounts.result c.mend_line-amounts.ensures in
     last_gone _ _ _ _ _ _ _ c.requires _ _ _ _ _ gone p

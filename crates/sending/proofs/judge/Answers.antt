@@ -1,20 +1,19 @@
 -- `sending::judge` meets its contract: the place is judged before the prefix.
-use mathlib.Core.Path.{refl}
+use mathlib.Core.Path.{◌≡◌}
+use mathlib.Core.Bool.{Bool, true}
+use mathlib.Core.List.{List}
+use Prim.Native.Nat.{ℕ}
+use Rattle.std.specs.Prelude.{Result, Ok, Err}
+use Rattle.spec.specs.declared.Refusal.{Refusal}
+use Rattle.padding.specs.Reading.{PrefixRead}
+use Rattle.padding.specs.declared.Prefix.{Prefix}
+use Rattle.sending.specs.Steps.{CommandJudged}
 use Rattle.sending.proofs.Outgoing.{delay-small}
 use Rattle.sending.proofs.judge.Goals as goal
 
-pub returns-then-not-in_range : goal.returns-then-not-in_range
-returns-then-not-in_range c = rw (c.if-not-in_range.true) refl
+judged : (cmd : List ℕ) (t : Bool) (r : Result Prefix Refusal) → t ≡ true → PrefixRead cmd r → CommandJudged cmd t r
+judged cmd t (Ok p) e read = (e, read.0, read.1, delay-small cmd p read)
+judged cmd t (Err r) e read = rw e read
 
-pub returns-in-BadPadding : goal.returns-in-BadPadding
-returns-in-BadPadding c = rw (c.if-not-in_range.false)
-    (refl, c.in-BadPadding.ensures)
-
-pub returns-in-Split : goal.returns-in-Split
-returns-in-Split c =
-    let read = c.in-Split.ensures in (
-      c.if-not-in_range.false,
-      read.0,
-      read.1,
-      delay-small c.args.command.now _ _ _ read,
-    )
+pub returns : goal.returns
+returns c = judged _ _ _ c.if-not-in_range.false c.read_prefix.ensures

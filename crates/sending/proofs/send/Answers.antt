@@ -4,34 +4,24 @@ use Rattle.spec.specs.Answers.{written_report}
 use Rattle.spec.specs.Sending.{send_outcome}
 use Rattle.sending.proofs.Outgoing.{delay-small, send-refused, send-split}
 use Rattle.sending.proofs.Delivery.{stopped}
-use borrow.Author.Rules.{rules}
+use Rattle.std.proofs.lemmas.Result.{err_from_is_err_and}
 use Rattle.sending.proofs.send.Goals as goal
 
-pub returns-in-BadPadding : goal.returns-in-BadPadding
-unfolding send_outcome
-returns-in-BadPadding c =
-    let a = c.args in
-    let p = c.in-BadPadding.ensures in
-    let e = stopped _ _ a.out.now (send-refused a.command.now a.lines a.speed a.pad _ p) in
-    (e.0, e.1, ap written_report e.0)
-
-pub slice_bounds-pad_bytes-count : goal.slice_bounds-pad_bytes-count
-slice_bounds-pad_bytes-count c = c.in-Split.ensures.1
-
-pub slice_bounds-pad_bytes-start : goal.slice_bounds-pad_bytes-start
-slice_bounds-pad_bytes-start c =
-    let within = c.in-Split.ensures.1 in
-    search rules
-
 pub pad_bytes-requires : goal.pad_bytes-requires
-pad_bytes-requires c =
-    let p = c.in-Split.ensures in
-    delay-small c.args.command.now _ _ _ p
+pad_bytes-requires c = delay-small _ _ c.in_ok-prefix.ensures
 
-pub returns-in-Split : goal.returns-in-Split
+pub returns-in_err-prefix : goal.returns-in_err-prefix
 unfolding send_outcome
-returns-in-Split c =
+returns-in_err-prefix c =
+    let r = err_from_is_err_and c.from_residual.result c.from_residual.ensures.1 in
     let a = c.args in
-    let p = c.in-Split.ensures in
+    let e = stopped _ _ a.out.now (send-refused a.command.now a.lines a.speed a.pad _ c.in_err-prefix.ensures) in
+    rw (r.1, r.2) (e.0, e.1, ap written_report e.0)
+
+pub returns : goal.returns
+unfolding send_outcome
+returns c =
+    let a = c.args in
+    let p = c.in_ok-prefix.prefix in
     let e = c.pad_bytes.ensures in
-    rw (send-split a.command.now a.lines a.speed a.pad c.in-Split.delay c.in-Split.star c.in-Split.from p.0) (e.0, e.1, ap written_report e.0)
+    rw (send-split a.command.now a.lines a.speed a.pad p.delay p.star p.from c.in_ok-prefix.ensures.0) (e.0, e.1, ap written_report e.0)

@@ -31,20 +31,20 @@ find_from-requires c =
 
 pub description-requires : goal.description-requires
 description-requires c =
-    let f = c.in-At.ensures in
+    let f = c.in-Some.ensures in
     found-fits _ _ _ (sym c.are_good_ends.ensures ∙ c.if-not-are_good_ends.false) (sym f)
 
-pub returns-in-Nothing : goal.returns-in-Nothing
-returns-in-Nothing c =
-    let f = c.in-Nothing.ensures in
+pub returns-in-None : goal.returns-in-None
+returns-in-None c =
+    let f = c.in-None.ensures in
     let g = sym c.are_good_ends.ensures ∙ c.if-not-are_good_ends.false in
     let m = sym c.is_good_name.ensures ∙ c.if-not-is_good_name.false in
     let e = sym (show_searched _ _ g _ m (omega arith) (sym f) ∙ shown-none _) in
     (e, ap shown_report e)
 
-pub returns-in-At : goal.returns-in-At
-returns-in-At c =
-    let f = c.in-At.ensures in
+pub returns-in-Some : goal.returns-in-Some
+returns-in-Some c =
+    let f = c.in-Some.ensures in
     let g = sym c.are_good_ends.ensures ∙ c.if-not-are_good_ends.false in
     let m = sym c.is_good_name.ensures ∙ c.if-not-is_good_name.false in
     let e = c.description.ensures ∙ sym (show_searched _ _ g _ m (omega arith) (sym f)) in

@@ -1,16 +1,11 @@
--- `tclist::put_records` meets its contract. The invariant: the text of the bytes that are left, stored where the text ends so far, makes the
--- whole text. The measure is the number of bytes that are left.
 use Prim.Native.Nat.{◌+◌}
-use mathlib.Core.Path.{refl, ◌∙◌}
+use mathlib.Core.Path.{◌∙◌}
 use native.Mathlib.Omega.{arith}
 use lib.ListN.{drop, get_or, length-append}
 use Rattle.spec.specs.Digits.{written}
 use Rattle.tclist.specs.Output.{separator_of, decimals}
 use Rattle.tclist.proofs.Texts.{byte-short, stored-rest, decimals-end, decimals-next}
 use Rattle.tclist.proofs.put_records.Goals as goal
-
-pub loop-k-init : goal.loop-k-init
-loop-k-init c = (refl, omega arith, refl, omega arith, omega arith)
 
 pub overflow_add-n : goal.overflow_add-n
 overflow_add-n c =
@@ -28,16 +23,15 @@ loop-k-preserved c =
     let byte = c.type_inv.records l.k in
     let short = byte-short b (omega arith) in
     let rest = decimals (l.k + 1) (drop (l.k + 1) records) in
-    let size = simp length-append at i.1 in
-    let last = rw c.separator.ensures at c.put_byte.ensures in (
-      stored-rest l.out _ _ l.n p.result (separator_of l.k) (written 10 1 b) rest p.ensures.1 p.ensures.0 last ∙ i.0,
-      omega (arith, p.ensures.0),
-      c.put_byte.auto.out ∙ p.auto.out ∙ l.invariant.2,
-      omega arith,
-      omega (arith, p.ensures.0),
-    )
+    let size = simp length-append at i.counted in
+    let last = rw c.separator.ensures at c.put_byte.ensures in
+    record {
+      stored = stored-rest l.out _ _ l.n p.result (separator_of l.k) (written 10 1 b) rest p.ensures.1 p.ensures.0 last ∙ i.stored;
+      counted = omega (arith, p.ensures.0);
+      bounded = omega (arith, p.ensures.0);
+    }
 
 pub returns : goal.returns
 returns c =
     let i = rw (decimals-end _ _ c.loop-k-test.false) at c.loop-k.invariant in
-    record { put_text = (omega arith, i.0); upper_bound = omega arith }
+    record { put_text = (omega arith, i.stored); upper_bound = omega arith }

@@ -1,6 +1,5 @@
--- `tclist::put_records` meets its contract. The invariant: the text of the bytes that are left, stored where the text ends so far, makes the
--- whole text. The measure is the number of bytes that are left.
-use Prim.Native.Nat.{◌+◌, ◌*◌, ◌-◌, ◌≤◌}
+-- The text of the bytes that are left, stored where the text ends so far, makes the whole text.
+use Prim.Native.Nat.{◌+◌, ◌*◌, ◌≤◌}
 use mathlib.Core.Path.{◌≡◌}
 use lib.ListN.{length, drop}
 use lib.Seq.{sets}
@@ -8,12 +7,8 @@ use Rattle.tclist.specs.Output.{decimals}
 use Rattle.tclist.proofs.put_records.Given as goal
 
 abbrev pub invariant-loop-k : goal.invariant-loop-k
-invariant-loop-k l =
-    (sets l.out l.n (decimals l.k (drop l.k l.records)) ≡ sets l.initial.out 0 (decimals 0 l.records))
-    × (l.n + length (decimals l.k (drop l.k l.records)) ≡ length (decimals 0 l.records))
-    × (length l.out ≡ length l.initial.out)
-    × (l.k ≤ length l.records)
-    × (l.n ≤ 4 * l.k)
-
-abbrev pub decreases-loop-k : goal.decreases-loop-k
-decreases-loop-k l = length l.records - l.k
+invariant-loop-k l = record {
+  stored : sets l.out l.n (decimals l.k (drop l.k l.records)) ≡ sets l.initial.out 0 (decimals 0 l.records);
+  counted : l.n + length (decimals l.k (drop l.k l.records)) ≡ length (decimals 0 l.records);
+  bounded : l.n ≤ 4 * l.k;
+}

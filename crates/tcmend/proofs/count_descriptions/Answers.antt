@@ -9,23 +9,14 @@ pub loop-next-init : goal.loop-next-init
 unfolding lines_of
 loop-next-init c = (zero-add _, omega arith, omega arith)
 
-pub overflow_add-n : goal.overflow_add-n
-overflow_add-n c =
-    omega (arith, c.count_line-n.ensures.1, c.loop-next.invariant.1, c.loop-next.invariant.2, c.requires)
-
-pub loop-next-smaller : goal.loop-next-smaller
-loop-next-smaller c =
-    let p = c.in-To.ensures in
-    omega (arith, p.1, p.2)
-
 pub loop-next-preserved : goal.loop-next-preserved
 loop-next-preserved c =
     let l = c.loop-next in
-    let p = c.in-To.ensures in
+    let p = c.in-Some.ensures in
     (counted_next _ l.at l.n _ _ l.invariant.0 c.count_line-n.ensures.0 _ p.0, omega (arith, l.invariant.1, p.1, c.count_line-n.ensures.1), p.2)
 
-pub returns-in-Last : goal.returns-in-Last
-returns-in-Last c =
+pub returns-in-None : goal.returns-in-None
+returns-in-None c =
     let l = c.loop-next in
-    let p = c.in-Last.ensures in
+    let p = c.in-None.ensures in
     counted_last _ l.at l.n _ _ l.invariant.0 c.count_line-n.ensures.0 p

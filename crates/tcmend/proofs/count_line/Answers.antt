@@ -8,6 +8,6 @@ pub returns-then-is_ignored : goal.returns-then-is_ignored
 unfolding line_at
 returns-then-is_ignored c = rw (sym c.is_ignored.ensures ∙ c.if-is_ignored.true) (refl, omega arith)
 
-pub returns : goal.returns
+pub returns-else-is_ignored : goal.returns-else-is_ignored
 unfolding line_at
-returns c = rw (sym c.is_ignored.ensures ∙ c.if-is_ignored.false) (refl, omega arith)
+returns-else-is_ignored c = rw (sym c.is_ignored.ensures ∙ c.if-is_ignored.false) (refl, omega arith)

@@ -1,12 +1,10 @@
--- `tcmend::tell` is safe: the spot stands in the database. The measure is the number of bytes of records that are left.
-use Prim.Native.Nat.{◌-◌, ◌≤◌}
+-- The spot stands in the database, and no more is counted than records were told of.
+use Prim.Native.Nat.{◌≤◌}
 use lib.ListN.{length}
 use Rattle.removal_notes.specs.Notes.{Stands}
 use Rattle.tcmend.proofs.tell.Given as goal
 
-abbrev pub invariant-loop-at : goal.invariant-loop-at
-invariant-loop-at g l =
-    Stands l.db l.spot × (l.told.fields ≤ l.at) × (l.told.changed ≤ l.at) × (l.told.dropped ≤ l.at) × (l.at ≤ length l.records)
-
-abbrev pub decreases-loop-at : goal.decreases-loop-at
-decreases-loop-at g l = length l.records - l.at
+abbrev pub invariant-loop-entry : goal.invariant-loop-entry
+invariant-loop-entry g l =
+    (goal.iterator-loop-entry g).can_next l.entry-iterator × (goal.iterator-loop-entry g).is_finite l.entry-iterator × Stands l.db.bytes.now l.spot
+    × (l.told.fields ≤ length l.yielded) × (l.told.changed ≤ length l.yielded) × (l.told.dropped ≤ length l.yielded)

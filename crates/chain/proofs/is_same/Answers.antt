@@ -1,9 +1,0 @@
--- `chain::is_same` meets its contract.
-use borrow.Author.Tests.{eq-eqb, ne_eqb}
-use Rattle.chain.proofs.is_same.Goals as goal
-
-pub returns-then-p-q : goal.returns-then-p-q
-returns-then-p-q c = simp (eq-eqb _ _ c.if-p-q.true)
-
-pub returns : goal.returns
-returns c = simp (ne_eqb _ _ c.if-p-q.false)

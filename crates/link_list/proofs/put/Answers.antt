@@ -1,7 +1,0 @@
--- `link_list::put` meets its contract: a store past the end is no store.
-use mathlib.Core.Path.{sym}
-use lib.Seq.{set_out}
-use Rattle.link_list.proofs.put.Goals as goal
-
-pub returns-else-i-list : goal.returns-else-i-list
-returns-else-i-list c = sym (set_out _ _ _ c.if-i-list.false)

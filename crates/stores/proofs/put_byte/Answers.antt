@@ -1,7 +1,0 @@
--- `stores::put_byte` meets its contract: a store past the end changes nothing, as `set` does.
-use lib.Seq.{set_out}
-use mathlib.Core.Path.{sym}
-use Rattle.stores.proofs.put_byte.Goals as goal
-
-pub returns-else-at-out : goal.returns-else-at-out
-returns-else-at-out c = sym (set_out _ _ _ c.if-at-out.false)
