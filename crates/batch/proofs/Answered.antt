@@ -1,14 +1,14 @@
 -- The answers: of one question by the tables, and of all in the lent buffer.
 -- Assumes nothing.
 use Rattle.std.specs.Prelude.{Option, Some, None, Result, Ok, Err}
-use Prim.Native.Nat.{ℕ, ◌+◌, ◌*◌, ◌/◌, ◌≤◌, ◌<◌}
+use Prim.Native.Nat.{ℕ, ◌+◌, ◌*◌, ◌≤◌, ◌<◌}
 use mathlib.Core.Path.{◌≡◌, refl, ◌∙◌, ap, sym}
 use mathlib.Core.Bool.{Bool, true, false}
-use mathlib.Core.List.{List, [], ◌∷◌}
+use mathlib.Core.List.{List, [], ◌∷◌, ◌++◌}
 use native.Mathlib.Omega.{arith}
 use borrow.Author.Tests.{eq-eqb, ne_eqb, le-ltb}
 use lib.Dec.{eqb}
-use lib.ListN.{length, drop, get_or, length-drop}
+use lib.ListN.{length, get_or}
 use lib.Seq.{sets}
 use Rattle.spec.specs.Choice.{pick, both}
 use Rattle.spec.specs.Refusals.{id_bytes, good_name, too_large}
@@ -22,7 +22,6 @@ use Rattle.spec.specs.declared.Kind.TheVariants.{Flag, Number, String}
 use Rattle.spec.specs.declared.Refusal.{Refusal}
 use Rattle.spec.specs.declared.Refusal.TheVariants.{BadId}
 use Rattle.laws.proofs.Tests.{both_false}
-use Rattle.laws.proofs.TextSteps.{drop-next}
 use Rattle.laws.proofs.Stores.{stored-append}
 use Rattle.laws.proofs.BatchAnswers.{answer-size}
 use Rattle.laws.proofs.LookupSteps.{hit-size}
@@ -35,8 +34,7 @@ use Rattle.capability_table.specs.Answers.{kept_answer, Answering}
 use Rattle.capability_table.proofs.Entries.{kind_some}
 use Rattle.capability_table.proofs.Marking.{id_placed}
 use Rattle.capability_table.proofs.Answering.{answer-kept}
-use Rattle.batch.specs.Answers.{SmallValues, Known, Asked}
-use Rattle.batch.specs.declared.Question.{Question}
+use Rattle.batch.specs.Answers.{SmallValues, Known}
 use Rattle.batch.specs.declared.Tables.{Tables}
 
 -- ---- one question
@@ -83,25 +81,19 @@ module _ (t : Terminal) (a b k z : ℕ) where
 
 -- ---- all questions
 
--- the four bytes of a question
-pub question-from : (l : List ℕ) (i : ℕ) → i < length l / 4
-    → drop (4 * i) l ≡ get_or l (4 * i) 0 ∷ get_or l (4 * i + 1) 0 ∷ get_or l (4 * i + 2) 0 ∷ get_or l (4 * i + 3) 0 ∷ drop (4 * (i + 1)) l
-question-from l i h =
-    let two : 4 * i + 1 + 1 ≡ 4 * i + 2 = omega arith in
-    let three : 4 * i + 2 + 1 ≡ 4 * i + 3 = omega arith in
-    let four : 4 * i + 3 + 1 ≡ 4 * (i + 1) = omega arith in
-    rw (drop-next l (4 * i) (omega arith), drop-next l (4 * i + 1) (omega arith), two, drop-next l (4 * i + 2) (omega arith), three)
-    (rw (drop-next l (4 * i + 3) (omega arith), four))
-
 -- a question's answer is stored, and those of the questions after it are left
-pub answered_on : (t : Terminal) (questions out : List ℕ) (i : ℕ) (q : Question) (x : Result (Option ℕ) Refusal) → Asked questions i q
-    → x ≡ batch_answer t q.0 q.1 q.2 q.3
-    → sets out (8 * i) (batch_answers t (drop (4 * i) questions))
-    ≡ sets (sets out (8 * i) (answer_bytes x)) (8 * (i + 1)) (batch_answers t (drop (4 * (i + 1)) questions))
+pub answered_on : (t : Terminal) (q left out : List ℕ) (i : ℕ) (x : Result (Option ℕ) Refusal) → length q ≡ 4
+    → x ≡ batch_answer t (get_or q 0 0) (get_or q 1 0) (get_or q 2 0) (get_or q 3 0)
+    → sets out (8 * i) (batch_answers t (q ++ left)) ≡ sets (sets out (8 * i) (answer_bytes x)) (8 * (i + 1)) (batch_answers t left)
 unfolding batch_answers
-answered_on t questions out i q x e h =
-    let n : 8 * i + length (answer_bytes x) ≡ 8 * (i + 1) = omega (arith, answer-size x) in
-    rw (e, ← h, stored-append out (8 * i) (answer_bytes x) (batch_answers t (drop (4 * (i + 1)) questions)), n)
+answered_on t (a ∷ b ∷ k ∷ z ∷ []) left out i x n h =
+    let e : 8 * i + length (answer_bytes x) ≡ 8 * (i + 1) = omega (arith, answer-size x) in
+    rw (← h, stored-append out (8 * i) (answer_bytes x) (batch_answers t left), e)
+answered_on t [] left out i x n h = absurd (omega arith)
+answered_on t (a ∷ []) left out i x n h = absurd (omega arith)
+answered_on t (a ∷ b ∷ []) left out i x n h = absurd (omega arith)
+answered_on t (a ∷ b ∷ k ∷ []) left out i x n h = absurd (omega arith)
+answered_on t (a ∷ b ∷ k ∷ z ∷ y ∷ q) left out i x n h = absurd (omega arith)
 
 answers-none : (t : Terminal) (l : List ℕ) → length l < 4 → batch_answers t l ≡ []
 unfolding batch_answers
@@ -111,9 +103,8 @@ answers-none t (a ∷ b ∷ []) h = refl
 answers-none t (a ∷ b ∷ k ∷ []) h = refl
 answers-none t (a ∷ b ∷ k ∷ z ∷ l) h = absurd (omega arith)
 
-pub answered-all : (t : Terminal) (questions out : List ℕ) (i : ℕ) → length questions / 4 ≤ i
-    → sets out (8 * i) (batch_answers t (drop (4 * i) questions)) ≡ out
-answered-all t questions out i h = rw (answers-none t (drop (4 * i) questions) (omega (arith, length-drop (4 * i) questions)))
+pub answered-all : (t : Terminal) (left out : List ℕ) (at : ℕ) → length left < 4 → sets out at (batch_answers t left) ≡ out
+answered-all t left out at h = rw (answers-none t left h)
 
 -- ---- the terminal
 

@@ -1,5 +1,5 @@
 -- What the functions answer: a pass over the fields into the tables of what answers, and the answer to a question by the tables.
-use Rattle.std.specs.Prelude.{ℕ, ◌+◌, ◌*◌, ◌<◌, ◌≡◌, List, [], ◌∷◌, ◌++◌, drop, Option, Result, Ok, Err, ⊤}
+use Rattle.std.specs.Prelude.{ℕ, ◌<◌, ◌≡◌, List, [], ◌∷◌, ◌++◌, Option, Result, Ok, Err, ⊤}
 use Rattle.std.proofs.lemmas.List.Edits.{sets}
 use Rattle.spec.specs.Fields.{reading}
 use Rattle.spec.specs.Chain.{Field, placed, Terminal, refused, terminal}
@@ -42,10 +42,6 @@ Known t (Ok u) tables = (names : List ℕ) × (fs : List Field) × (t ≡ termin
 -- `note_terminal`: from empty tables on.
 abbrev pub NotesTerminal : Terminal → Tables → Result ⊤ Refusal → Tables → Type 0
 NotesTerminal t before r after = Answering [] before.marks before.values → Known t r after
-
--- `question_at`: the questions from the i-th on are one, and those from the next on.
-abbrev pub Asked : List ℕ → ℕ → Question → Type 0
-Asked questions i q = drop (4 * i) questions ≡ q.0 ∷ q.1 ∷ q.2 ∷ q.3 ∷ drop (4 * (i + 1)) questions
 
 -- `answer_one` and `put_answers`: for whatever terminal is known so.
 abbrev pub Answers : Question → Result ⊤ Refusal → Tables → Result (Option ℕ) Refusal → Type 0

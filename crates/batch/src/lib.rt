@@ -15,7 +15,7 @@ ghost use Rattle.spec.specs.Batch.{answer_bytes, batch_answers, batch_outcome, b
 ghost use Rattle.spec.specs.Fields.{kind_number};
 ghost use Rattle.capability_table.specs.Answers.{kept_marks, kept_values};
 ghost use Rattle.chain.specs.Answers.{lines_of};
-ghost use Rattle.batch.specs.Answers.{Notes, NotesRead, NotesTexts, NotesTerminal, Asked, Answers, PutAnswers};
+ghost use Rattle.batch.specs.Answers.{Notes, NotesRead, NotesTexts, NotesTerminal, Answers, PutAnswers};
 
 use capability_table::{CANCEL, NAMES, VALUES, keep, kept_answer, meet};
 use chain::Chain;
@@ -35,7 +35,7 @@ const ANSWER_SIZE: usize = 8;
 #[derive(Clone, Copy)]
 struct Question(u8, u8, u8, u8);
 
-// The first byte of an answer.
+// The first byte of an answer. Numbers: they are bytes of the format, and the code has them as `Result<Option<u32>, Refusal>`.
 const PRESENT: u8 = 0;
 
 const ABSENT: u8 = 1;
@@ -150,26 +150,14 @@ fn answer_one(
     kept_answer(&tables.marks, &tables.values, a, b, kind)
 }
 
-fn question_at(questions: &[u8], i: usize) -> Question
-    requires { i < length questions.now / 4 }
-    ensures { Asked questions.now i result }
-{
-    let at = QUESTION_SIZE * i;
-    Question(
-        questions[at],
-        questions[at + 1],
-        questions[at + 2],
-        questions[at + 3],
-    )
-}
-
 // Answers each question, in order.
 fn put_answers(questions: &[u8], walked: Result<(), Refusal>, tables: &Tables, out: &mut [u8])
     requires { length questions.now / 4 * 8 ≤ length out.old }
     ensures { PutAnswers questions.now walked tables.now out.old out.new }
 {
-    for i in 0..questions.len() / QUESTION_SIZE {
-        let answer = answer_one(question_at(questions, i), walked, tables);
+    for (i, q) in questions.chunks_exact(QUESTION_SIZE).enumerate() {
+        let question = Question(q[0], q[1], q[2], q[3]);
+        let answer = answer_one(question, walked, tables);
         put_answer(out, ANSWER_SIZE * i, answer);
     }
 }

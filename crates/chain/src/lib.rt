@@ -16,7 +16,7 @@ use spec::{Location, Refusal};
 // A chain of more descriptions is refused with 8.
 pub const MOST_DESCRIPTIONS: usize = 32;
 
-// The lines of a chain, in order: the first `count` of `lines`.
+// The lines of a chain, in order: the first `count` of `lines`. An array with its count, in fixed memory: a Vec needs the heap.
 #[derive(Clone, Copy)]
 pub struct Chain {
     pub lines: [Location; MOST_DESCRIPTIONS],

@@ -72,4 +72,5 @@ ReadUpTo s at r = Reads s at r.0 × Passed s at r.1 r.2
 abbrev pub FieldsFrom : List ℕ → ℕ → Option Field → Type 0
 FieldsFrom s at None = split (line_at s at) ≡ []
 FieldsFrom s at (Some f) =
-    (split (line_at s at) ≡ field_at s at ∷ split (line_at s f.next)) × Reads s at f.read × (length (field_at s at) ≡ f.length) × (at < f.next) × (f.next ≤ length s)
+    (split (line_at s at) ≡ field_at s at ∷ split (line_at s f.next)) × Reads s at f.read × (length (field_at s at) ≡ f.length) × (at < f.next)
+    × (f.next ≤ length s)

@@ -25,7 +25,7 @@ pub fn are_good_ends(db: &[u8], ends: &[usize]) -> bool
     true
 }
 
-// Where a file starts: at the end of the one before.
+// Where a file starts: at the end of the one before. By index: tried with `ends.get(..)`, and the proof did not close.
 pub fn file_start(db: &[u8], ends: &[usize], k: u8) -> usize
     ensures { result ≡ file_start (files db.now ends.now) k }
 {

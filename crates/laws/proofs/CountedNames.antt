@@ -116,7 +116,8 @@ later_byte b n t = go (eqb b 10)
     colon true = omega arith
     colon false = bar (eqb b 124)
       where
-        bar : (z : Bool) → length (pick z (upto 124 (upto 58 (line_text t)) ∷ later_pieces 124 (upto 58 (line_text t))) (later_pieces 124 (upto 58 (line_text t))))
+        bar : (z : Bool)
+            → length (pick z (upto 124 (upto 58 (line_text t)) ∷ later_pieces 124 (upto 58 (line_text t))) (later_pieces 124 (upto 58 (line_text t))))
             + length (names_in (later_lines t)) ≤ suc (later t)
         bar true = omega arith
         bar false = omega arith

@@ -132,12 +132,6 @@ module _ (b : ℕ) (l : List ℕ) where
   unfolding decode
   decode_first e = rw e
 
-pub escaped_not : (b : ℕ) → (b ≡ 69 → ⊥) → (b ≡ 110 → ⊥) → (b ≡ 114 → ⊥) → (b ≡ 116 → ⊥) → (b ≡ 98 → ⊥) → (b ≡ 102 → ⊥) → (b ≡ 94 → ⊥) → (b ≡ 92 → ⊥) →
-    escaped b ≡ 256
-unfolding escaped
-escaped_not b e n r t b' f h s =
-    rw (ne_eqb b 69 e, ne_eqb b 110 n, ne_eqb b 114 r, ne_eqb b 116 t, ne_eqb b 98 b', ne_eqb b 102 f, ne_eqb b 94 h, ne_eqb b 92 s)
-
 pub control_127 : (b : ℕ) → b ≡ 63 → control b ≡ 127
 unfolding control
 control_127 b e = rw (eq-eqb b 63 e)

@@ -207,7 +207,8 @@ kept-verdict r place (p ∷ ps) = go (reading (upto 58 p)) refl (kept-verdict r 
     linked n e false = ignored-judge _ (kept-after r (place + length p) ps)
 
     go : (x : Reading) → reading (upto 58 p) ≡ x → judge (cut_texts (kept_pieces (parts_from false r (place + length p) ps))) ≡ stands r (link_of ps)
-        → judge (cut_texts (kept_pieces (record { place = place; bytes = p; reason = field_reason false r x } ∷ parts_from (is_link x) r (place + length p) ps)))
+        → judge (cut_texts (kept_pieces (record { place = place; bytes = p; reason = field_reason false r x }
+        ∷ parts_from (is_link x) r (place + length p) ps)))
         ≡ stands r (first_link x (link_of ps))
     go malformed e ih = ih
     go ignored e ih = judge-ignored (upto 58 p) _ e ∙ ih

@@ -125,7 +125,8 @@ module _ (size : Parameter → ℕ) (kept : (p : Parameter) (h : ℕ) → size (
   decimal_fits least ps p n h =
       pick-told (Fits size ps) (non_negative (held p)) (λ e. let s = decimal_short least (held p) n e in omega arith) (λ e. out_of_range)
 
-  byte_fits : (c : ℕ) (ps : Parameters) (p : Parameter) → ((k : ℕ) → k ≤ 2 → weight size (take_next ps k) ≤ 1 + weight size ps) → Fits size ps (as_byte g c ps p)
+  byte_fits : (c : ℕ) (ps : Parameters) (p : Parameter) → ((k : ℕ) → k ≤ 2 → weight size (take_next ps k) ≤ 1 + weight size ps)
+      → Fits size ps (as_byte g c ps p)
   byte_fits c ps p h =
       pick_all (Fits size ps) (both (leb 32768 (held p + c)) (ltb (plain_value (held p + c)) 256))
       (omega (arith, h _ (byte-few g p (plain_value (held p + c))))) out_of_range

@@ -42,7 +42,8 @@ rising-byte b n t r = go (eqb b 10)
 rising_later : (at : ℕ) (s : List ℕ) → Rising (suc at) (later_lines (join at s))
 unfolding join
 rising_later at [] = unfold later_lines in tt
-rising_later at (b ∷ []) = rising-from (suc at) (at + 1) (later_lines (byte b (at + 1) end)) (omega arith) (rising-byte b (at + 1) end (unfold later_lines in tt))
+rising_later at (b ∷ []) =
+    rising-from (suc at) (at + 1) (later_lines (byte b (at + 1) end)) (omega arith) (rising-byte b (at + 1) end (unfold later_lines in tt))
 rising_later at (b ∷ c ∷ s) = go (both (eqb b 92) (eqb c 10)) (rising_later (at + 1 + 1) s) (rising_later (at + 1) (c ∷ s))
   where
     go : (x : Bool) → Rising (suc (at + 1 + 1)) (later_lines (join (at + 1 + 1) s)) → Rising (suc (at + 1)) (later_lines (join (at + 1) (c ∷ s)))

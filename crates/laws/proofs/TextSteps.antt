@@ -3,7 +3,7 @@
 use Rattle.std.specs.Prelude.{Some}
 use Prim.Native.Nat.{ℕ, zero, suc, ◌+◌, ◌≤◌, ◌<◌}
 use mathlib.Core.Path.{◌≡◌, refl, ◌∙◌}
-use mathlib.Core.Bool.{Bool, true, false}
+use mathlib.Core.Bool.{true, false}
 use mathlib.Core.List.{List, [], ◌∷◌}
 use native.Mathlib.Numerals.{add-one}
 use native.Mathlib.Omega.{arith}
@@ -13,24 +13,7 @@ use native.Mathlib.Nat.{not-suc-le-zero, le_of_suc-le-suc}
 use lib.ListN.{length, drop, get_or, drop_of_length-le}
 use lib.Seq.{drop-cons}
 use mathlib.Core.Logic.{◌⊎◌, inl, inr}
-use Rattle.spec.specs.Choice.{pick}
-use Rattle.spec.specs.Lines.{
-  Text,
-  end,
-  byte,
-  join,
-  text_at,
-  line_text,
-  later_lines,
-  lines_from,
-  first_name,
-  later_names,
-  blank,
-  comment,
-  is_ignored,
-  has_name,
-  find,
-}
+use Rattle.spec.specs.Lines.{Text, end, byte, join, text_at, line_text, later_lines, lines_from, first_name, later_names, blank, is_ignored, has_name, find}
 use Rattle.spec.specs.Lists.{upto, later_pieces, same, among}
 use Rattle.laws.proofs.Tests.{both_false}
 
@@ -95,24 +78,6 @@ module _ (b n : ℕ) (t : Text) where
   pub line_on : (b ≡ 10 → ⊥) → line_text (byte b n t) ≡ b ∷ line_text t
   unfolding line_text
   line_on h = rw (ne_eqb b 10 h)
-
-  comment_if : (l : List ℕ) (x : Bool) → (b ≡ 35 → ⊥) → comment (pick x [] (b ∷ l)) ≡ false
-  unfolding comment
-  comment_if l true h = refl
-  comment_if l false h = ne_eqb b 35 h
-
-  pub comment_is : b ≡ 35 → comment (line_text (byte b n t)) ≡ true
-  unfolding comment
-  comment_is e = rw (line_on (omega arith), eq-eqb b 35 e)
-
-  pub comment_not : (b ≡ 35 → ⊥) → comment (line_text (byte b n t)) ≡ false
-  unfolding line_text
-  comment_not h = comment_if (line_text t) (eqb b 10) h
-
-  pub blank_on : (b ≡ 9) ⊎ (b ≡ 32) → blank (line_text (byte b n t)) ≡ blank (line_text t)
-  unfolding blank
-  blank_on (inl e) = rw (line_on (omega arith), ne_eqb b 32 (omega arith), eq-eqb b 9 e)
-  blank_on (inr e) = rw (line_on (omega arith), eq-eqb b 32 e)
 
   pub blank_not : (b ≡ 10 → ⊥) → ((b ≡ 9) ⊎ (b ≡ 32) → ⊥) → blank (line_text (byte b n t)) ≡ false
   unfolding blank

@@ -65,7 +65,8 @@ module _ (db n : List ℕ) where
           rw (← s, ← f) (ig, w.1)
       go false h q = ih q
 
-  find-byte : (b at p : ℕ) (t : Text) → line_text t ≡ line_at db at → (find n (later_lines t) ≡ Some p → Holds n (line_at db p)) → find n (later_lines (byte b at t))
+  find-byte : (b at p : ℕ) (t : Text) → line_text t ≡ line_at db at
+      → (find n (later_lines t) ≡ Some p → Holds n (line_at db p)) → find n (later_lines (byte b at t))
       ≡ Some p → Holds n (line_at db p)
   unfolding later_lines
   find-byte b at p t f ih e = go (eqb b 10) e

@@ -5,7 +5,7 @@
 ghost use Rattle.std.specs.Prelude.{◌≡◌, eqb, length};
 ghost use Rattle.spec.specs.Lists.{same};
 ghost use Rattle.spec.specs.Lines.{text_at, line_text, blank, is_ignored, first_name, extent};
-ghost use Rattle.lines.specs.Answers.{Peeked, NextName, NextLine};
+ghost use Rattle.lines.specs.Answers.{Peeked, NextName, NextLine, Closed};
 
 // The first byte of the joined text at a place, with the place after it; none at the end of the database.
 pub fn peek(s: &[u8], at: usize) -> Option<(u8, usize)>
@@ -123,29 +123,11 @@ pub fn next_name(s: &[u8], at: usize) -> Option<usize>
     }
 }
 
-// Where the line at a place ends, its closing newline not counted.
-#[tactic(auto, using(laws::proofs::Extents::extent_on), unfolding(spec::specs::Lines::extent, spec::specs::Lines::line_end))]
-pub fn line_end(db: &[u8], at: usize) -> usize
-    ensures { result ≡ extent db.now at }
-{
-    let mut i = at;
-    loop {
-        match peek(db, i) {
-            Some((b, n)) => {
-                if b == b'\n' {
-                    return n - 1;
-                }
-                i = n;
-            }
-            None => return db.len(),
-        }
-    }
-}
-
-// Where the line after the one at a place starts.
-#[tactic(auto, unfolding(spec::specs::Lines::later_lines))]
-pub fn next_line(db: &[u8], at: usize) -> Option<usize>
-    ensures { NextLine db.now at result }
+// The place behind the newline that ends the line at a place, if one does.
+#[tactic(auto, using(laws::proofs::Extents::extent_on), unfolding(spec::specs::Lines::later_lines, spec::specs::Lines::extent, spec::specs::Lines::line_end))]
+fn past_line(db: &[u8], at: usize) -> Option<usize>
+    ensures later { NextLine db.now at result }
+    ensures closed { Closed db.now at result }
 {
     let mut i = at;
     loop {
@@ -159,4 +141,21 @@ pub fn next_line(db: &[u8], at: usize) -> Option<usize>
             None => return None,
         }
     }
+}
+
+// Where the line at a place ends, its closing newline not counted.
+pub fn line_end(db: &[u8], at: usize) -> usize
+    ensures { result ≡ extent db.now at }
+{
+    match past_line(db, at) {
+        Some(n) => n - 1,
+        None => db.len(),
+    }
+}
+
+// Where the line after the one at a place starts.
+pub fn next_line(db: &[u8], at: usize) -> Option<usize>
+    ensures { NextLine db.now at result }
+{
+    past_line(db, at)
 }

@@ -56,7 +56,8 @@ fn line_link(db: &[u8], at: usize) -> Option<usize>
     }
 }
 
-// Stores a link of the line at a place, and answers how many there are then.
+// Stores a link of the line at a place, and answers how many there are then. The lists and their count stay three arguments: `list_links`,
+// which is public, is lent the lists apart, and room of a fixed size has its count beside it.
 fn put_link(
     link: Option<usize>,
     at: usize,

@@ -33,7 +33,8 @@ const MOST_RECORD_BYTES: usize = 65520;
 
 const MOST_FLAT_BYTES: usize = 16385;
 
-// What is written for a winning field: its record, or its text and a colon.
+// What is written for a winning field: its record, or its text and a colon. No closure: the pass promises `written form` of specs/Answers,
+// so each function that passes a closure on would say in its contract which of the two forms the closure writes.
 #[derive(Clone, Copy)]
 pub enum Form {
     Records,

@@ -69,13 +69,3 @@ module _ (id : List ℕ) (k : ℕ) (t : List ℕ) where
   named_matches s (Flag a b) h p = entry_matches a b _ p ∙ rw h
   named_matches s (Number a b v) h p = entry_matches a b _ p ∙ rw h
   named_matches s (String a b text n) h p = entry_matches a b _ p.1 ∙ rw h
-
--- what is read as no capability is of no kind
-pub no_kind : (k : ℕ) (read : FieldRead) → ((a b : ℕ) → read ≡ Cancel a b → ⊥) → ((a b : ℕ) → read ≡ Flag a b → ⊥) → ((a b v : ℕ) → read ≡ Number a b v → ⊥) → ((a b text n : ℕ) → read ≡ String a b text n → ⊥) → has_kind k read ≡ false
-no_kind k Malformed t0 t1 t2 t3 = refl
-no_kind k Ignored t0 t1 t2 t3 = refl
-no_kind k (Link name) t0 t1 t2 t3 = refl
-no_kind k (Cancel a b) t0 t1 t2 t3 = absurd (t0 a b refl)
-no_kind k (Flag a b) t0 t1 t2 t3 = absurd (t1 a b refl)
-no_kind k (Number a b v) t0 t1 t2 t3 = absurd (t2 a b v refl)
-no_kind k (String a b text n) t0 t1 t2 t3 = absurd (t3 a b text n refl)

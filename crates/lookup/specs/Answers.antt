@@ -31,7 +31,7 @@ has_kind k (Flag a b) = eqb k 1
 has_kind k (Number a b v) = eqb k 2
 has_kind k (String a b text n) = eqb k 3
 
--- `match_kind`, `match_read`: a field with the asked name, by whether it is a cancel, and whether it is of the asked kind.
+-- `match_read`: a field with the asked name, by whether it is a cancel, and whether it is of the asked kind.
 abbrev pub Matched : Bool → Bool → Match → Type 0
 Matched cancels answers Passes = (cancels ≡ false) × (answers ≡ false)
 Matched cancels answers Cancels = cancels ≡ true

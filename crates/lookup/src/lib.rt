@@ -1,7 +1,7 @@
 // The lookup: which field of a chain answers for an id and a kind.
 #![tactic(auto)]
 
-ghost use Rattle.std.specs.Prelude.{◌≡◌, [], ◌∷◌, eqb};
+ghost use Rattle.std.specs.Prelude.{◌≡◌, [], ◌∷◌};
 ghost use Rattle.spec.specs.Lines.{line_at};
 ghost use Rattle.spec.specs.Files.{files, contents};
 ghost use Rattle.spec.specs.Fields.{split, kind_number};
@@ -24,7 +24,8 @@ enum Match {
     Answers,
 }
 
-// What the fields of one line say: the lookup goes on, a cancel ends it, or a field answers, and is read so.
+// What the fields of one line say: the lookup goes on, a cancel ends it, or a field answers, and is read so. No Option or Result: of the three
+// outcomes none is a failure.
 #[derive(Clone, Copy)]
 enum LineHit {
     Open,
@@ -32,7 +33,7 @@ enum LineHit {
     Answered(FieldRead),
 }
 
-// Whether the field at a place starts with two bytes.
+// Whether the field at a place starts with two bytes. No plainer with `?` or one pattern: the second byte is read only if the first fits.
 fn has_name(s: &[u8], at: usize, a: u8, b: u8) -> bool
     ensures { result ≡ has_name (a ∷ b ∷ []) (field_at s.now at) }
 {
@@ -48,35 +49,27 @@ fn has_name(s: &[u8], at: usize, a: u8, b: u8) -> bool
     b == y
 }
 
-// A capability with the asked name, whose kind has the number `of` (0 for a cancel), for a question about a kind.
-fn match_kind(of: u8, kind: u8) -> Match
-    ensures { Matched (eqb 0 of) (eqb kind of) result }
+// A field that starts with the asked name, for a question about a kind.
+#[tactic(auto, unfolding(spec::specs::Fields::kind_number))]
+fn match_read(read: FieldRead, kind: Kind) -> Match
+    ensures { Matched (has_kind 0 read) (has_kind (kind_number kind) read) result }
 {
-    if of == 0 {
-        return Match::Cancels;
-    }
-    if of == kind {
+    let asked = match read {
+        FieldRead::Cancel(_, _) => return Match::Cancels,
+        FieldRead::Flag(_, _) => matches!(kind, Kind::Flag),
+        FieldRead::Number(_, _, _) => matches!(kind, Kind::Number),
+        FieldRead::String(_, _, _, _) => matches!(kind, Kind::String),
+        FieldRead::Malformed | FieldRead::Ignored | FieldRead::Link(_) => false,
+    };
+    if asked {
         return Match::Answers;
     }
     Match::Passes
 }
 
-// A field that starts with the asked name.
-fn match_read(read: FieldRead, kind: u8) -> Match
-    ensures { Matched (has_kind 0 read) (has_kind kind read) result }
-{
-    match read {
-        FieldRead::Cancel(_, _) => match_kind(0, kind),
-        FieldRead::Flag(_, _) => match_kind(Kind::FLAG, kind),
-        FieldRead::Number(_, _, _) => match_kind(Kind::NUMBER, kind),
-        FieldRead::String(_, _, _, _) => match_kind(Kind::STRING, kind),
-        _ => Match::Passes,
-    }
-}
-
 // Over the fields of the part of the database that starts after a line's names. Only a field that starts with the asked name is read.
-fn scan_fields(s: &[u8], a: u8, b: u8, kind: u8) -> LineHit
-    ensures { Scanned (a ∷ b ∷ []) kind (split (line_at s.now 0)) s.now result }
+fn scan_fields(s: &[u8], a: u8, b: u8, kind: Kind) -> LineHit
+    ensures { Scanned (a ∷ b ∷ []) (kind_number kind) (split (line_at s.now 0)) s.now result }
 {
     let mut at = 0;
     loop {
@@ -111,7 +104,6 @@ pub fn look_up(
     ensures { LookedUp (a ∷ b ∷ []) (kind_number kind) (joined_fields (contents (files db.now ends.now)) 0 (lines_of c))
         (contents (files db.now ends.now)) result }
 {
-    let number = kind.number();
     let n = c.count.min(MOST_DESCRIPTIONS);
     for p in &c.lines[..n] {
         let k = p.file;
@@ -119,7 +111,7 @@ pub fn look_up(
         let Some(AfterNames { fields, .. }) = after_names(part, p.at) else {
             continue;
         };
-        match scan_fields(&part[fields..], a, b, number) {
+        match scan_fields(&part[fields..], a, b, kind) {
             LineHit::Open => {}
             LineHit::Cancelled => return None,
             LineHit::Answered(read) => return Some((

@@ -1,6 +1,7 @@
 // A table of names, for a search by halving: the name j has the `lens[j]` bytes from 64 j on, and `order` lists the names. The contracts
 // do not ask that the list be sorted, or that it have every name: a text is found, or not, by its bytes alone, and what is found is the
-// text. How many steps that takes is the list's affair.
+// text. How many steps that takes is the list's affair. The three are lent apart: `slot_of` and `list_names`, which are public, take them so,
+// and promise what becomes of `order` alone.
 #![tactic(auto)]
 
 ghost use Rattle.std.specs.Prelude.{◌+◌, ◌*◌, ◌-◌, ◌≤◌, ◌<◌, ◌≡◌, length};

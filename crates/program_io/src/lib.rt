@@ -153,7 +153,8 @@ pub fn read_path<R: Files>(rt: &R, path: &[u8], buffer: &mut [u8]) -> Result<usi
     read_file(&mut file, buffer)
 }
 
-// Reads until a newline is there, the input ends or the buffer is full: the bytes before the newline.
+// Reads until a newline is there, the input ends or the buffer is full: the bytes before the newline. Not by std's `read_line`, which needs
+// the heap.
 pub fn read_line<R: Read>(file: &mut R, buffer: &mut [u8]) -> Result<usize>
     ensures { LineRead result buffer.new }
 {

@@ -1,4 +1,4 @@
-// Flag, Number and String.
+// Flag, Number and String. Database, ends and name stay three arguments: the public functions take them so, and promise of each.
 #![tactic(auto)]
 
 ghost use Rattle.std.specs.Prelude.{◌≡◌, ◌≤◌, length, drop};

@@ -9,7 +9,23 @@ use Rattle.spec.specs.Choice.{pick}
 use Rattle.spec.specs.Padding.{Prefix, Split, prefix_of, delay_for, pad_count}
 use Rattle.spec.specs.Position as Position
 use Rattle.spec.specs.Position.{body, fault, fill_in}
-use Rattle.spec.specs.Sending.{refused, with_bytes, filled_in, prepared, prepared_at, sends, stops, pads_of, padded, good_speed, good_place, delivered, filled_answer, filled_into, handed}
+use Rattle.spec.specs.Sending.{
+  refused,
+  with_bytes,
+  filled_in,
+  prepared,
+  prepared_at,
+  sends,
+  stops,
+  pads_of,
+  padded,
+  good_speed,
+  good_place,
+  delivered,
+  filled_answer,
+  filled_into,
+  handed,
+}
 use Rattle.laws.proofs.PaddingLaws.{Splits, delay-below}
 use Rattle.position.proofs.FillSteps.{part, part_is}
 use Rattle.padding.specs.Reading.{PrefixRead}

@@ -44,7 +44,7 @@ fn held_for(n: u64) -> u16
     ZERO + n.min(GREATEST) as u16
 }
 
-// Row and column "each 0..9,999".
+// Row and column "each 0..9,999". Twins by their types, on purpose: a row is never taken for a column (decision 44).
 fn good_row(row: Row) -> bool
     ensures { result ≡ good_row row }
 {

@@ -44,6 +44,7 @@ pub enum Refusal {
 }
 
 impl Refusal {
+    // By this name in the documents, and `u8::from(refusal)` is no plainer than `refusal.number()`.
     pub fn number(self) -> u8
         ensures { result ≡ refusal_number self }
     {
@@ -84,6 +85,7 @@ impl Kind {
 
     pub const STRING: u8 = 3;
 
+    // By this name in the documents, as a refusal's; `u8::from(kind)` is no plainer.
     pub fn number(self) -> u8
         ensures { result ≡ kind_number self }
     {
@@ -94,6 +96,7 @@ impl Kind {
         }
     }
 
+    // By this name in the documents; `TryFrom` is no plainer: it wants an error type, which would say nothing.
     pub fn from_number(n: u8) -> Option<Kind>
         ensures { result ≡ kind_of n }
     {

@@ -16,4 +16,5 @@ more l c n s (Some (d, m)) e h p t = base_octal l _ c e h d _ p.0
 more l c n s None e h p t = clash (sym t)
 
 pub returns-in-Some : goal.returns-in-Some
-returns-in-Some c = more _ _ _ _ c.field_byte-then-b-eq48.result c.in-Some.ensures.0 c.if-b-eq48.true c.field_byte-then-b-eq48.ensures (sym c.if-is_some.ensures)
+returns-in-Some c =
+    more _ _ _ _ c.field_byte-then-b-eq48.result c.in-Some.ensures.0 c.if-b-eq48.true c.field_byte-then-b-eq48.ensures (sym c.if-is_some.ensures)

@@ -51,8 +51,7 @@ returns-in-Cancelled c =
     let q = c.in-Cancelled.ensures in
     let i = c.loop-p.invariant in
     let l = line_of_part _ _ _ c.file-part.ensures in
-    let e = i.1 ∙ look_cancelled _ _ _ _ _ _ (omega arith) (omega arith) _ _ l (rw (← part_fields _ _ _ _ p) q) in
-    rw c.number-number.ensures at e
+    i.1 ∙ look_cancelled _ _ _ _ _ _ (omega arith) (omega arith) _ _ l (rw (← part_fields _ _ _ _ p) q)
 
 pub returns-in-Answered : goal.returns-in-Answered
 returns-in-Answered c =
@@ -64,7 +63,7 @@ returns-in-Answered c =
     let e = i.1 ∙ look_answered _ _ _ _ _ _ (omega arith) (omega arith) _ _ l q.0 (rw (← part_fields _ _ _ _ p) q.1) in
     let part = c.file-part.result.now in
     let a = part_read part c.in-Some.field-0.fields (reading q.0) c.in-Answered.read q.2 in
-    (q.0, rw (← c.number-number.ensures) e, rw (← f) a, rw (← f) (omega arith))
+    (q.0, e, rw (← f) a, rw (← f) (omega arith))
 
 pub returns : goal.returns
-returns c = rw c.number-number.ensures at (c.loop-p.invariant.1 ∙ look_end _ _ _ _ _ _ (omega arith))
+returns c = c.loop-p.invariant.1 ∙ look_end _ _ _ _ _ _ (omega arith)

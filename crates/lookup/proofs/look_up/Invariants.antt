@@ -3,6 +3,7 @@ use mathlib.Core.Path.{◌≡◌}
 use mathlib.Core.List.{[], ◌∷◌}
 use lib.ListN.{length}
 use Rattle.spec.specs.Files.{files, contents}
+use Rattle.spec.specs.Fields.{kind_number}
 use Rattle.spec.specs.Chain.{joined_fields}
 use Rattle.spec.specs.Lookup.{lookup}
 use Rattle.chain.specs.Answers.{lines_of}
@@ -13,5 +14,6 @@ abbrev pub invariant-loop-p : goal.invariant-loop-p
 invariant-loop-p l =
     let fs = contents (files l.db l.ends) in
     let id = l.a ∷ l.b ∷ [] in
+    let k = kind_number l.kind in
     (length l.p-items ≡ l.n)
-    × (lookup id l.number (joined_fields fs 0 (lines_of l.fn.c)) ≡ lookup id l.number (fields_from fs l.p-items l.n l.p-index))
+    × (lookup id k (joined_fields fs 0 (lines_of l.fn.c)) ≡ lookup id k (fields_from fs l.p-items l.n l.p-index))

@@ -14,7 +14,8 @@ unfolding fill_outcome
 returns-in_err-prefix c =
     let r = err_from_is_err_and c.from_residual.result c.from_residual.ensures.1 in
     let a = c.args in
-    let j = place-judged a.row a.column _ _ c.held_for.ensures c.held_for-2.ensures a.command.now _ (Err c.in_err-prefix.field-0.0) c.good_place.ensures c.in_err-prefix.ensures in
+    let j = place-judged a.row a.column _ _ c.held_for.ensures c.held_for-2.ensures a.command.now _
+    (Err c.in_err-prefix.field-0.0) c.good_place.ensures c.in_err-prefix.ensures in
     rw (r.1, r.2) (rw (at-refused a.command.now a.row a.column a.back.now a.up.now _ j) (refl, refl, refl))
 
 pub returns : goal.returns

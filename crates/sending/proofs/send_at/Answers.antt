@@ -15,7 +15,8 @@ unfolding send_at_outcome
 returns-in_err-prefix c =
     let r = err_from_is_err_and c.from_residual.result c.from_residual.ensures.1 in
     let a = c.args in
-    let j = place-judged a.row a.column _ _ c.held_for.ensures c.held_for-2.ensures a.command.now _ (Err c.in_err-prefix.field-0.0) c.good_place.ensures c.in_err-prefix.ensures in
+    let j = place-judged a.row a.column _ _ c.held_for.ensures c.held_for-2.ensures a.command.now _
+    (Err c.in_err-prefix.field-0.0) c.good_place.ensures c.in_err-prefix.ensures in
     let refusal = at-refused a.command.now a.row a.column a.back.now a.up.now _ j in
     let e = stopped _ _ a.out.now (ap (λ (x : Prepared). padded x a.lines a.speed a.pad) refusal) in
     rw (r.1, r.2) (e.0, e.1, ap written_report e.0)
