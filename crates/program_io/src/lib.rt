@@ -74,7 +74,7 @@ impl<'a, E: Print> Messages<'a, E> {
         let _ = self.err.write_all(what);
     }
 
-    pub fn say(&self, what: &[u8]) {
+    fn say(&self, what: &[u8]) {
         let _ = self.err.write_all(self.program);
         let _ = self.err.write_all(b": ");
         let _ = self.err.write_all(what);

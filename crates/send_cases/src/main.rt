@@ -78,9 +78,12 @@ fn show_filled(answer: Result<Finished, Refusal>) {
         Ok(f) => {
             io::write_all(1, b" ok ");
             io::print_decimal(1, f.delay as u64);
-            io::write_all(1, b" ");
-            io::print_decimal(1, f.star as u64);
-            io::write_all(1, b" ");
+            let star = if f.star {
+                b" 1 ".as_slice()
+            } else {
+                b" 0 ".as_slice()
+            };
+            io::write_all(1, star);
             io::print_decimal(1, f.count as u64);
         }
         Err(r) => show_refusal(r.number()),

@@ -149,7 +149,9 @@ The exit status says nothing: it is 0 in every case.
 
 fn run<R: Files + Env + Input + Print, E: Print>(rt: &R, messages: &Messages<E>) {
     if !has_argument(rt, 1) || has_argument(rt, 2) {
-        messages.say(b"one argument is wanted, the file; tclist --help says more\n");
+        let _ = messages.err.write_all(
+            b"tclist: one argument is wanted, the file; tclist --help says more\n",
+        );
         return;
     }
     let mut path = io::buffer();

@@ -8,7 +8,7 @@ ghost use Rattle.spec.specs.Lines.{line_at, text_at, is_ignored};
 ghost use Rattle.spec.specs.Choice.{pick};
 ghost use Rattle.spec.specs.Repair.{lines_of, descriptions};
 ghost use Rattle.removal_notes.specs.Notes.{Put, Stands, note, position_of, shown};
-ghost use Rattle.tcmend.specs.Reasons.{reason_text};
+ghost use Rattle.tcmend.specs.Reasons.{reason_numbered, reason_text};
 
 use lines::{is_ignored, next_line};
 use mended_fields::RECORD_SIZE;
@@ -76,6 +76,8 @@ enum Reason {
 
 // As a record has it, in four bytes.
 impl From<u32> for Reason {
+    ghost from_gives = { λ n reason. reason ≡ reason_numbered n };
+
     fn from(n: u32) -> Reason {
         match n {
             1 => Reason::NoColon,
@@ -329,33 +331,36 @@ fn store_in<'a, R: Files>(
     rename(rt, from, path).map_err(|reason| Failure { what: path, reason })
 }
 
-fn store_as<'a, R: Files>(
+// Whether the text is in the file of that name. What failed is said before the temporary file is removed.
+fn store_as<R: Files, E: Print>(
     rt: &R,
-    from: &'a [u8],
-    path: &'a [u8],
+    messages: &Messages<E>,
+    from: &[u8],
+    path: &[u8],
     text: &[u8],
-) -> std::result::Result<(), Failure<'a>> {
-    let file = create(rt, from).map_err(|reason| Failure { what: from, reason })?;
-    let stored = store_in(rt, file, from, path, text);
-    if stored.is_err() {
-        let _ = remove(rt, from);
-    }
-    stored
+) -> bool {
+    let file = match create(rt, from) {
+        Ok(file) => file,
+        Err(reason) => {
+            messages.fail(from, reason);
+            return false;
+        }
+    };
+    let Err(failure) = store_in(rt, file, from, path, text) else {
+        return true;
+    };
+    messages.fail(failure.what, failure.reason);
+    let _ = remove(rt, from);
+    false
 }
 
-// Whether the text is in the file. Under a temporary name first, the path and `.tcmend`.
+// Under a temporary name first, the path and `.tcmend`.
 fn replace<R: Files, E: Print>(rt: &R, messages: &Messages<E>, path: Path, text: &[u8]) -> bool {
     let mut from = [0u8; TEMPORARY_ROOM];
     put_bytes(&mut from, 0, path.name);
     put_bytes(&mut from, path.name.len(), b".tcmend");
     let n = path.name.len() + 7;
-    match store_as(rt, &from[..n], path.name, text) {
-        Ok(()) => true,
-        Err(failure) => {
-            messages.fail(failure.what, failure.reason);
-            false
-        }
-    }
+    store_as(rt, messages, &from[..n], path.name, text)
 }
 
 // ---- the program
@@ -496,7 +501,9 @@ fn mend_asked<R: Env + Files + Print, E: Print>(rt: &R, messages: &Messages<E>, 
 
 fn run<R: Env + Files + Print, E: Print>(rt: &R, messages: &Messages<E>) {
     if !has_argument(rt, 1) || has_argument(rt, 3) {
-        messages.say(b"a file is wanted, and perhaps a new one; tcmend --help says more\n");
+        let _ = messages.err.write_all(
+            b"tcmend: a file is wanted, and perhaps a new one; tcmend --help says more\n",
+        );
         return;
     }
     let mut path = io::buffer();
