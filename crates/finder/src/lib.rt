@@ -12,6 +12,7 @@ use identifiers::is_good_name;
 use line_collector::{COMPLETE, LINE_START, Place, feed_named, finish_named};
 use spec::Refusal;
 use spec::finder::{Finder, LONGEST_LINE, LineState};
+use stores::put_bytes;
 
 // A finder before its first byte: with a name of at most 64 bytes, or one that has ended.
 fn begin(name: &[u8], ended: u8) -> Finder
@@ -86,7 +87,8 @@ fn copy_line(n: usize, text: &[u8], out: &mut [u8]) -> Result<usize, Refusal>
     if n > text.len() || n > out.len() {
         return Err(Refusal::NoRoom);
     }
-    out[..n].copy_from_slice(&text[..n]);
+    // Not by `copy_from_slice`, for which the archive would need `memmove` from outside.
+    put_bytes(out, 0, &text[..n]);
     Ok(n)
 }
 

@@ -91,11 +91,14 @@ fn write_pads(room: &mut [u8], count: usize, pad: u8)
 
 // ---- Send
 
+// By a loop: with `copy_from_slice` the archive would need `memmove` from outside.
 fn copy_front(bytes: &[u8], out: &mut [u8])
     requires { length bytes.now ≤ length out.old }
     ensures { out.new ≡ sets out.old 0 bytes.now }
 {
-    out[..bytes.len()].copy_from_slice(bytes);
+    for i in 0..bytes.len() {
+        out[i] = bytes[i];
+    }
 }
 
 // "Send copies percent signs unchanged."
@@ -214,11 +217,14 @@ fn send_filled(
         Err(r) => Err(r),
         Ok(None) => Err(Refusal::NoRoom),
         Ok(Some(n)) => {
-            if n <= SMALL {
-                return send_copied(&small[..n], pads, pad, out);
-            }
             if pads > capacity - n {
                 return Err(Refusal::NoRoom);
+            }
+            if n <= SMALL {
+                // From an array of its own, so that this is `memcpy`.
+                out[..n].copy_from_slice(&small[..n]);
+                write_pads(&mut out[n..], pads, pad);
+                return Ok(n + pads);
             }
             // The same, as was measured.
             let _ = fill_in(body, first, back, up, capacity, out);

@@ -1,12 +1,12 @@
 -- `finder::copy_line` meets its contract.
-use mathlib.Core.Path.{refl, ap}
-use mathlib.Core.List.{List, ◌++◌}
-use Prim.Native.Nat.{ℕ, ◌≤◌, ◌<◌}
+use mathlib.Core.Path.{refl, ◌∙◌}
+use Prim.Native.Nat.{◌≤◌, ◌<◌}
 use native.Mathlib.Omega.{arith}
 use borrow.Author.Tests.{le-leb, lt-leb}
-use lib.ListN.{length, take, drop}
+use lib.ListN.{length, take}
 use lib.Seq.{length-take-le}
 use Rattle.laws.proofs.Buffers.{put-fits, put_full}
+use Rattle.laws.proofs.Stores.{stored_front}
 use Rattle.finder.proofs.copy_line.Goals as goal
 use Rattle.finder.proofs.copy_line.Goals.{then-n-text-via-then-n-text, then-n-text-via-else-n-text+then-n-out}
 
@@ -28,5 +28,5 @@ returns c =
     let line = take a.n a.text.now in
     let i = length-take-le a.n a.text.now c.if-n-text.false in
     let j : length line ≤ length a.out.now = omega (arith, i, c.if-n-out.false) in
-    rw (le-leb _ _ c.if-n-text.false, put-fits line a.n a.out.now j, i)
-    (refl, ap (λ (l : List ℕ). l ++ drop a.n a.out.now) c.copy_from_slice.ensures.after)
+    rw (le-leb _ _ c.if-n-text.false, put-fits line a.n a.out.now j)
+    (refl, c.put_bytes.ensures ∙ stored_front a.out.now line j)

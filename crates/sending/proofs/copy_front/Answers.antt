@@ -1,7 +1,13 @@
--- `sending::copy_front` meets its contract: what is copied to the front of a buffer is stored there.
-use mathlib.Core.Path.{refl, sym}
-use Rattle.sending.proofs.LentTail.{set_front}
+-- `sending::copy_front` meets its contract: the first i bytes are stored.
+use native.Mathlib.Omega.{arith}
+use lib.ListN.{length-set}
+use Rattle.compensations.proofs.Appending.{copied_more}
 use Rattle.sending.proofs.copy_front.Goals as goal
 
-pub returns : goal.returns
-returns c = rw c.copy_from_slice.ensures.after (sym (set_front c.args.bytes.now c.args.out.now _ refl c.requires))
+pub loop-i-preserved : goal.loop-i-preserved
+loop-i-preserved c =
+    let l = c.loop-i in
+    let a = c.args in (
+      rw l.invariant.0 (copied_more a.bytes.now a.out.now 0 l.i l.i (omega arith) c.loop-i-test.true),
+      simp length-set l.invariant.1,
+    )
