@@ -4,14 +4,15 @@
 
 ghost use Rattle.std.specs.Prelude.{◌≡◌, ◌+◌, ◌≤◌, ◌<◌, eqb};
 ghost use Rattle.spec.specs.Choice.{both};
-ghost use Rattle.spec.specs.Position.{plain_of, raising_for, compensation, repeated, compensations_of, compensations, compensated};
+ghost use Rattle.spec.specs.Position.{plain_of, raising_for, compensation, repeated, compensations, compensated};
+ghost use Rattle.spec.specs.declared.position.Parameter.TheVariants.{Row as OfRow, Column as OfColumn};
 ghost use Rattle.places.specs.Places.{parameters_of};
 ghost use Rattle.compensations.specs.Appending.{BytesAppended, BodyFilledIn};
 
 use places::{Places, Turn};
 use position::fill_body;
 use spec::Refusal;
-use spec::position::{Parameter, Raising, Used};
+use spec::position::{Column, Raising, Row};
 use stores::put_bytes;
 
 // The place after bytes that were appended; none if there is no room for them.
@@ -44,35 +45,21 @@ fn append_times(
     Some(end)
 }
 
-// "Back string for a column, up string for a row, taken as they stand. ... Only back empty: byte 8 stands for it."
-fn compensation<'a>(back: &'a [u8], up: &'a [u8], parameter: Parameter) -> &'a [u8]
-    ensures { result.now ≡ compensation back.now up.now parameter }
+// What is appended for a row: "up string for a row, taken as they stand".
+fn compensation_of_row<'a>(row: Row, back: &'a [u8], up: &'a [u8]) -> &'a [u8]
+    ensures { result.now ≡ compensation back.now up.now (OfRow row) }
 {
-    match parameter {
-        Parameter::Row(_) => up,
-        Parameter::Column(_) => {
-            if back.is_empty() {
-                return b"\x08";
-            }
-            back
-        }
-    }
+    up
 }
 
-// The compensations of a used parameter.
-fn append_for(
-    used: Used,
-    back: &[u8],
-    up: &[u8],
-    capacity: usize,
-    out: &mut [u8],
-    at: usize,
-) -> Option<usize>
-    requires { at ≤ capacity }
-    ensures { BytesAppended (compensations_of back.now up.now used) capacity out.old at result out.new }
+// What is appended for a column: "back string for a column ... Only back empty: byte 8 stands for it."
+fn compensation_of_column<'a>(column: Column, back: &'a [u8], up: &'a [u8]) -> &'a [u8]
+    ensures { result.now ≡ compensation back.now up.now (OfColumn column) }
 {
-    let bytes = compensation(back, up, used.parameter);
-    append_times(bytes, used.compensations, capacity, out, at)
+    if back.is_empty() {
+        return b"\x08";
+    }
+    back
 }
 
 // Whether neither parameter owes a compensation.
@@ -99,25 +86,19 @@ fn append_compensations(
     if owes_nothing(ps) {
         return Some(at);
     }
-    let row = Used {
-        parameter: Parameter::Row(ps.row),
-        compensations: ps.ups,
-    };
-    let column = Used {
-        parameter: Parameter::Column(ps.column),
-        compensations: ps.backs,
-    };
+    let for_row = compensation_of_row(ps.row, back, up);
+    let for_column = compensation_of_column(ps.column, back, up);
     match ps.turn {
         Turn::RowColumn | Turn::ColumnRow => Some(at),
-        Turn::ColumnLeft => append_for(row, back, up, capacity, out, at),
-        Turn::RowLeft => append_for(column, back, up, capacity, out, at),
+        Turn::ColumnLeft => append_times(for_row, ps.ups, capacity, out, at),
+        Turn::RowLeft => append_times(for_column, ps.backs, capacity, out, at),
         Turn::RowFirst => {
-            let next = append_for(row, back, up, capacity, out, at)?;
-            append_for(column, back, up, capacity, out, next)
+            let next = append_times(for_row, ps.ups, capacity, out, at)?;
+            append_times(for_column, ps.backs, capacity, out, next)
         }
         Turn::ColumnFirst => {
-            let next = append_for(column, back, up, capacity, out, at)?;
-            append_for(row, back, up, capacity, out, next)
+            let next = append_times(for_column, ps.backs, capacity, out, at)?;
+            append_times(for_row, ps.ups, capacity, out, next)
         }
     }
 }

@@ -4,6 +4,7 @@
 ghost use Rattle.std.specs.Prelude.{◌≡◌};
 ghost use Rattle.spec.specs.Values.{held, raised, changed};
 ghost use Rattle.spec.specs.Sequences.{with_next, as_decimal, as_byte, change_next, change_every, exchange, perform};
+ghost use Rattle.spec.specs.declared.position.Parameter.TheVariants.{Row as OfRow, Column as OfColumn};
 ghost use Rattle.places.specs.Places.{parameters_of};
 ghost use Rattle.sequences.specs.Readings.{SequenceRead};
 ghost use Rattle.sequences.specs.Effects.{effect_of, raised_if, decimal_effect, byte_effect, change_both_effect};
@@ -165,13 +166,26 @@ fn as_byte(raises: bool, c: u8, h: u16, ps: Places) -> Result<Performed, Refusal
     })
 }
 
-// `%.`, `%+c`, by the axis: a row's bytes and a column's are raised apart.
+// By the type: a row's bytes and a column's are raised apart.
+fn row_as_byte(g: Raising, c: u8, row: Row, ps: Places) -> Result<Performed, Refusal>
+    ensures { effect_of result ≡ as_byte g c (parameters_of ps) (OfRow row) }
+{
+    as_byte(g.rows, c, row.0, ps)
+}
+
+fn column_as_byte(g: Raising, c: u8, column: Column, ps: Places) -> Result<Performed, Refusal>
+    ensures { effect_of result ≡ as_byte g c (parameters_of ps) (OfColumn column) }
+{
+    as_byte(g.columns, c, column.0, ps)
+}
+
+// `%.`, `%+c`.
 fn next_as_byte(g: Raising, c: u8, ps: Places) -> Result<Performed, Refusal>
     ensures { effect_of result ≡ with_next (parameters_of ps) (as_byte g c (parameters_of ps)) }
 {
     match ps.next_parameter() {
-        Some(Parameter::Row(row)) => as_byte(g.rows, c, row.0, ps),
-        Some(Parameter::Column(column)) => as_byte(g.columns, c, column.0, ps),
+        Some(Parameter::Row(row)) => row_as_byte(g, c, row, ps),
+        Some(Parameter::Column(column)) => column_as_byte(g, c, column, ps),
         None => Err(Refusal::TooFewParameters),
     }
 }

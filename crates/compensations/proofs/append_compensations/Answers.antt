@@ -14,9 +14,11 @@ returns-then-owes_nothing c =
 pub returns-in_ok-next-in-RowFirst : goal.returns-in_ok-next-in-RowFirst
 unfolding compensations parameters_of
 returns-in_ok-next-in-RowFirst c =
-    rw c.in-RowFirst.is (then_appended _ _ _ _ _ _ _ _ _ c.in_ok-next-in-RowFirst.ensures c.append_for-in-RowFirst-2.ensures)
+    rw (c.in-RowFirst.is, ← c.compensation_of_row-for_row.ensures, ← c.compensation_of_column-for_column.ensures)
+    (then_appended _ _ _ _ _ _ _ _ _ c.in_ok-next-in-RowFirst.ensures c.append_times-in-RowFirst-2.ensures)
 
 pub returns-in_ok-next-in-ColumnFirst : goal.returns-in_ok-next-in-ColumnFirst
 unfolding compensations parameters_of
 returns-in_ok-next-in-ColumnFirst c =
-    rw c.in-ColumnFirst.is (then_appended _ _ _ _ _ _ _ _ _ c.in_ok-next-in-ColumnFirst.ensures c.append_for-in-ColumnFirst-2.ensures)
+    rw (c.in-ColumnFirst.is, ← c.compensation_of_row-for_row.ensures, ← c.compensation_of_column-for_column.ensures)
+    (then_appended _ _ _ _ _ _ _ _ _ c.in_ok-next-in-ColumnFirst.ensures c.append_times-in-ColumnFirst-2.ensures)
