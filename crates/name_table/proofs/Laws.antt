@@ -5,19 +5,15 @@ use mathlib.Core.Path.{◌≡◌, refl, ◌∙◌, ap, sym}
 use mathlib.Core.Bool.{Bool, true, false}
 use mathlib.Core.List.{List, [], ◌∷◌}
 use native.Mathlib.Omega.{arith}
-use borrow.Author.Tests.{eqb-true, eqb-false, eq-eqb, lt-ltb, le-ltb, ltb-true, ltb-false}
+use borrow.Author.Tests.{eqb-true, eqb-false, eq-eqb, ne_eqb, lt-ltb, le-ltb, ltb-true, ltb-false}
 use lib.Dec.{eqb, ltb}
-use Rattle.std.specs.Ordering.{is_lt, is_some_and, nat_cmp}
-use Rattle.std.specs.Cmp.Lexicographic.{slice_partial_cmp}
-use Rattle.std.proofs.lemmas.Cmp.{same_from_slice_cmp_tested}
-use Rattle.std.proofs.lemmas.Bool.Decides.{nat_tests}
-use Rattle.std.specs.Prelude.{Some}
-use lib.ListN.{length, take, drop, get_or, set}
+use lib.ListN.{length, take, drop, get_or, set, drop_of_length-le}
 use lib.Seq.{get_or-set_same, get_or-set_other, set_out}
 use Rattle.spec.specs.Choice.{pick, both}
 use Rattle.spec.specs.Lists.{same}
 use Rattle.laws.proofs.Tests.{clash, both_false}
 use Rattle.laws.proofs.WholeLines.{same_equal, equal_same}
+use Rattle.laws.proofs.TextSteps.{drop-next}
 use Rattle.name_table.specs.Table.{AtMost, Table, text_of, before, listed_before, halved, place_in, slot_of}
 
 -- ---- bounds
@@ -46,13 +42,35 @@ text_is bytes lens j =
     let e : j * 64 + get_or lens j 0 - j * 64 ≡ get_or lens j 0 = omega arith in
     rw e
 
--- ---- the comparison of texts
+-- ---- the comparison of texts, of which i bytes are the same
 
--- `<` of two slices
-pub before_is : (a b : List ℕ) (r : Bool) → r ≡ is_some_and is_lt (slice_partial_cmp (λ x y. Some (nat_cmp x y)) a b) → r ≡ before a b
-unfolding before
-before_is =
-    same_from_slice_cmp_tested nat_cmp is_lt before refl (λ y ys. refl) (λ x xs. refl) (λ x y xs ys o h. grind (arith, nat_tests))
+unfoldable pub onward : List ℕ → ℕ → List ℕ
+onward l i = drop i l
+
+pub before-whole : (a b : List ℕ) → before a b ≡ before (onward a 0) (onward b 0)
+unfolding onward
+before-whole a b = refl
+
+module _ (a b : List ℕ) (i : ℕ) where
+  pub before-none : length b ≤ i → before (onward a i) (onward b i) ≡ false
+  unfolding before onward
+  before-none h = rw (drop_of_length-le b h) (go (drop i a))
+    where
+      go : (l : List ℕ) → before l [] ≡ false
+      go [] = refl
+      go (x ∷ l) = refl
+
+  pub before_more : length a ≤ i → i < length b → before (onward a i) (onward b i) ≡ true
+  unfolding before onward
+  before_more h g = rw (drop_of_length-le a h, drop-next b i g)
+
+  pub before_differs : i < length a → i < length b → (get_or a i 0 ≡ get_or b i 0 → ⊥) → before (onward a i) (onward b i) ≡ ltb (get_or a i 0) (get_or b i 0)
+  unfolding before onward
+  before_differs h g n = rw (drop-next a i h, drop-next b i g, ne_eqb (get_or a i 0) (get_or b i 0) n)
+
+  pub before_on : i < length a → i < length b → get_or a i 0 ≡ get_or b i 0 → before (onward a i) (onward b i) ≡ before (onward a (i + 1)) (onward b (i + 1))
+  unfolding before onward
+  before_on h g e = rw (drop-next a i h, drop-next b i g, eq-eqb (get_or a i 0) (get_or b i 0) e)
 
 -- no text comes before itself
 pub before_not : (l : List ℕ) → before l l ≡ false
