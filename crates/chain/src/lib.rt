@@ -28,7 +28,7 @@ fn is_visited(c: Chain, p: Location) -> bool
     requires { c.count ≤ 32 }
     ensures { result ≡ visited p (lines_of c) }
 {
-    c.lines[..c.count].contains(&p)
+    c.lines[..c.count].iter().any(|q| *q == p)
 }
 
 fn with_line(c: Chain, p: Location) -> Chain
