@@ -1,5 +1,5 @@
-// List, Flat and a batch of questions as C takes their results: over several files, and over a single one that fills the buffer. The C functions
-// of `termcap` call these, under the same promises word for word (decision 112).
+// List, Flat and a batch of questions as C takes their results: over several files, and over a single one that fills the buffer, for the C
+// interface has both. The C functions of `termcap` call these, under the same promises word for word (decision 112).
 #![tactic(auto)]
 
 ghost use Rattle.std.specs.Prelude.{◌≡◌};

@@ -1,5 +1,5 @@
-// Flag, Number and String as C takes their results: over several files, and over a single one that fills the buffer. The C functions of
-// `termcap` call these, under the same promises word for word (decision 112).
+// Flag, Number and String as C takes their results: over several files, and over a single one that fills the buffer, for the C interface has
+// both. The C functions of `termcap` call these, under the same promises word for word (decision 112).
 #![tactic(auto)]
 
 ghost use Rattle.std.specs.Prelude.{◌≡◌};

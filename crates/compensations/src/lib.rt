@@ -45,7 +45,8 @@ fn append_times(
     Some(end)
 }
 
-// What is appended for a row: "up string for a row, taken as they stand".
+// What is appended for a row: "up string for a row, taken as they stand". Two functions, here and below, by their types: a row is never
+// taken for a column (decision 44).
 fn compensation_of_row<'a>(row: Row, back: &'a [u8], up: &'a [u8]) -> &'a [u8]
     ensures { result.now ≡ compensation back.now up.now (OfRow row) }
 {

@@ -21,8 +21,8 @@ fn text_of<'a>(bytes: &'a [u8], lens: &[usize], j: usize) -> &'a [u8]
     &bytes[from..from + lens[j]]
 }
 
-// Whether a text comes before another. Not by `<` of slices: tried, and Repair takes 1.4 times as long where names begin
-// alike, and three times as long where they are empty.
+// Whether a text comes before another. Not by `<` of slices: tried, and Repair takes 23% more instructions where names begin alike, and
+// over twice as many where they are empty.
 fn is_before(a: &[u8], b: &[u8]) -> bool
     ensures { result ≡ before a.now b.now }
 {

@@ -29,7 +29,8 @@ fn is_digit(b: u8) -> bool
     matches!(b, b'0'..=b'9')
 }
 
-// Five digits are enough to refuse: "over 4 digits before the point, or over one after it".
+// Five digits are enough to refuse: "over 4 digits before the point, or over one after it". A reader of its own: that of `fields` reads
+// joined bytes, in two bases.
 fn read_digits(s: &[u8], at: usize) -> DigitRun
     requires { at ≤ length s.now }
     ensures { DigitsRead s.now at result.value result.end }
