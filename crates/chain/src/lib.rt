@@ -23,7 +23,8 @@ pub struct Chain {
     pub count: usize,
 }
 
-// "A line is now known by file and place." By `any`: with `contains`, that test could only be changed (cycle_by_place_alone) with its form.
+// "A line is now known by file and place." By `any`, which has that test in its closure: there the must-fail edit cycle_by_place_alone can
+// change it and nothing else.
 fn is_visited(c: Chain, p: Location) -> bool
     requires { c.count ≤ 32 }
     ensures { result ≡ visited p (lines_of c) }

@@ -1,5 +1,5 @@
 // Where the links of a database lead: each wanted name is settled at the first line that has it, in one pass over all names of the lines
-// that are left, for some hundred wanted names at a time.
+// that are left, for some hundred wanted names at a time. The lists of places are lent apart, as in `link_list`.
 #![tactic(auto)]
 
 ghost use Rattle.std.specs.Prelude.{◌≤◌, ◌<◌, ◌≡◌, eqb, length};

@@ -14,7 +14,7 @@ use mended_fields::{RECORD_SIZE, put_record, record_fields, write_kept};
 use spec::Amounts;
 use stores::{put_after, put_bytes};
 
-// "Reasons are 1 to 5": a line without a colon.
+// "Reasons are 1 to 5": a line without a colon. Numbers, as in `mended_fields`.
 const NO_COLON: usize = 1;
 
 // The place behind the line at a place: behind its closing newline, or the end of the database.

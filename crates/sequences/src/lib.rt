@@ -166,7 +166,7 @@ fn as_byte(raises: bool, c: u8, h: u16, ps: Places) -> Result<Performed, Refusal
     })
 }
 
-// By the type: a row's bytes and a column's are raised apart.
+// A row's bytes and a column's are raised by two functions: by the type, neither is taken for the other (decision 44).
 fn row_as_byte(g: Raising, c: u8, row: Row, ps: Places) -> Result<Performed, Refusal>
     ensures { effect_of result ≡ as_byte g c (parameters_of ps) (OfRow row) }
 {

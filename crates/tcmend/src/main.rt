@@ -331,7 +331,8 @@ fn store_in<'a, R: Files>(
     rename(rt, from, path).map_err(|reason| Failure { what: path, reason })
 }
 
-// Whether the text is in the file of that name. What failed is said before the temporary file is removed.
+// Whether the text is in the file of that name. What failed is said before the temporary file is removed: here, and not by the caller of a
+// `Result`.
 fn store_as<R: Files, E: Print>(
     rt: &R,
     messages: &Messages<E>,

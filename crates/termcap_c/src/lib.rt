@@ -1,5 +1,6 @@
 // The library for programs in C, and for any language that calls C: the functions of `termcap` under their own names, each one call of it under
-// the same promise word for word. A slice passes to C as a pointer and a length, and the reader has no C functions.
+// the same promise word for word, in a crate beside it, since an archive exports the functions of one crate (decision 112). A slice passes to
+// C as a pointer and a length, and the reader has no C functions.
 #![tactic(auto)]
 
 ghost use Rattle.std.specs.Prelude.{◌≡◌};

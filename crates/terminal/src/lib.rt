@@ -10,7 +10,7 @@ use identifiers::is_good_name;
 use spec::{MOST_BYTES, Refusal};
 
 // "Ends that fall, or pass the buffer, or more than eight, are the new refusal 16, before all others"; "limit 3 is for all of it". The
-// database, its ends and the name stay three arguments, here and in all that asks by name: each is lent by itself.
+// database, its ends and the name stay three arguments, here and in the functions that call this: each is lent by itself.
 pub fn resolve(db: &[u8], ends: &[usize], name: &[u8]) -> Result<Chain, Refusal>
     ensures { Resolved (files db.now ends.now) name.now result }
 {
