@@ -1,5 +1,5 @@
 // The finder of document 02, Ask 8: it is fed a database in blocks and collects the joined line of the first description with the asked
-// name. The state is lent, and changed where it stands; a call that is refused alters nothing.
+// name. The state is lent, and changed where it stands; a block or an end that is refused alters nothing.
 #![tactic(auto)]
 
 ghost use Rattle.std.specs.Prelude.{◌≡◌, ◌≢◌, ◌≤◌, length, MatchResult};

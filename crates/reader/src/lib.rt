@@ -1,6 +1,6 @@
 // "An opened reader keeps the database it was opened on and serves Show, Flag and Number from it with equal answers and refusals; opening
 // itself refuses nothing." It keeps the files' ends, too; bad ones are refused with each question. Show, Flag and Number are each one call of
-// `show` or `questions`; Show stores the number of its refusal, as there.
+// `show` or `questions`; Show stores the number of its refusal as `show::show` does, which tells why.
 #![tactic(auto)]
 
 ghost use Rattle.std.specs.Prelude.{◌≡◌};

@@ -18,7 +18,7 @@ pub struct LineState {
 }
 
 // held: the last byte was a backslash, and whether it vanishes is not known yet. ended: the end was declared. Both are 0 for no. The asked
-// name is the first `size` bytes of `name`.
+// name is the first `size` bytes of `name`: an array with its size, since the state is C's to keep.
 #[repr(C)]
 #[derive(Clone, Copy)]
 pub struct Finder {

@@ -331,8 +331,8 @@ fn store_in<'a, R: Files>(
     rename(rt, from, path).map_err(|reason| Failure { what: path, reason })
 }
 
-// Whether the text is in the file of that name. What failed is said before the temporary file is removed: here, and not by the caller of a
-// `Result`.
+// Whether the text is in the file of that name. What failed is said before the temporary file is removed; with a `Result` the caller would
+// say it after that.
 fn store_as<R: Files, E: Print>(
     rt: &R,
     messages: &Messages<E>,
